@@ -91,7 +91,7 @@ slots-clear None = tt
 slots-clear (Some k) = clear k
 
 -- what bytes may be read as, with no cause against it
-abbrev tests : List ℕ → List (Cause × Bool)
+abbrev pub tests : List ℕ → List (Cause × Bool)
 tests s =
     (UnknownKind, ltb 0 (length s) && no-kind (kind-in s))
     ∷ (CutShort, ltb (length s) (length-in s))
@@ -168,7 +168,7 @@ write-read k r old out at next typed e =
     (ap (answer-of at) got ∙ ap (λ n. Ok (k, n)) (g .next-is), ap (record-of old) got)
 
 -- the record that was read, whatever was lent for it
-opened : (q : Result (ℕ × ℕ × Record) Cause) (at k next : ℕ) (old : Record) → answer-of at q ≡ Ok (k, next) → (n : ℕ) × (q ≡ Ok (k, n, record-of old q)) × (next ≡ at + n)
+pub opened : (q : Result (ℕ × ℕ × Record) Cause) (at k next : ℕ) (old : Record) → answer-of at q ≡ Ok (k, next) → (n : ℕ) × (q ≡ Ok (k, n, record-of old q)) × (next ≡ at + n)
 opened (Ok q) at k next old e =
     let pair : _≡_ {A = ℕ × ℕ} (q .0, at + q .1) (k, next) = cc in
     (q .1, ap (λ (p : ℕ × ℕ). Ok (p .0, q .1, q .2)) pair, sym (ap (λ (p : ℕ × ℕ). p .1) pair))

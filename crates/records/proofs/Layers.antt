@@ -87,11 +87,3 @@ pub known-from : (s : List ℕ) (k : Kind) (l m : ℕ) (rest : List ℕ) (q : Re
 known-from s k l m rest q h e el em er eq =
     ap (under l) eq ∙ ap (λ i. under i (parse-fields k m rest)) el ∙ ap (λ i. under (getD s 0 0) (parse-fields k i rest)) em ∙ ap (λ bs. under (getD s 0 0) (parse-fields k (map-in s) bs)) er
     ∙ sym (known s k h e)
-
--- what is found in `&s[at..]` is what is found at that place
-pub from-place : {X : Type 0} (F : List ℕ → X) (s : List ℕ) (at : ℕ) (q : X) → q ≡ F (take (length s - at) (drop at s)) → q ≡ F (drop at s)
-from-place F s at q e = e ∙ ap F (rest-is at s)
-
--- past the end there is nothing
-pub past-end : {X : Type 0} (F : List ℕ → X) (s : List ℕ) (at : ℕ) → length s < at → F (drop at s) ≡ F []
-past-end F s at h = ap F (drop-all at s (omega arith))

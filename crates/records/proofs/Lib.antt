@@ -1,10 +1,11 @@
-mod Back
+pub mod Back
+pub mod Ends
 mod Filled
 mod Layers
 mod Named
 pub mod Over
 mod Records
 mod Spelled
-mod Turns
+pub mod Turns
 pub mod Unless
 mod Widths

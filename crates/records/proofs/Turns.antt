@@ -15,7 +15,7 @@ use Rattle.records.specs.declared.parts.Slot.{Slot}
 use Rattle.records.specs.declared.parts.Slot.the-variants.{Must}
 use Rattle.records.specs.Layout.{field-of, may-lack, shape}
 use Rattle.records.specs.Fields.{value}
-use Rattle.records.specs.Bytes.{field-bytes, width, odd, standing, size, missing, fits, wrong, taken}
+use Rattle.records.specs.Bytes.{width, odd, standing, size, missing, fits, wrong, taken}
 
 -- what is read past the last slot
 abbrev pub no-slot : Slot
@@ -45,16 +45,16 @@ module _ (ss : List Slot) (i m : ℕ) (h : i < length ss) where
   pub wrong-more : (r : Record) → wrong r (standing (drop i ss) m) ≡ ((odd m && not (fits (shape (field-of slot)) (value (field-of slot) r))) || wrong r (standing (drop (i + 1) ss) (m / 2)))
   wrong-more r = ap (wrong r) standing-more ∙ wrong-by r (odd m) _ _
 
--- the bytes of the field of a slot, given the map from its bit up
-abbrev pub slot-bytes : Record → Slot → ℕ → List ℕ
-slot-bytes r s m = cond (odd m) (field-bytes r (field-of s)) []
+-- what the field of a slot gives, where its bit stands in the map from there up
+abbrev pub slot-part : (Field → List ℕ) → Slot → ℕ → List ℕ
+slot-part g s m = cond (odd m) (g (field-of s)) []
 
-joined-by : (r : Record) (b : Bool) (fs : List Field) (f : Field) → joined (field-bytes r) (cond b (f ∷ fs) fs) ≡ cond b (field-bytes r f) [] ++ joined (field-bytes r) fs
-joined-by r true fs f = refl
-joined-by r false fs f = refl
+joined-by : (g : Field → List ℕ) (b : Bool) (fs : List Field) (f : Field) → joined g (cond b (f ∷ fs) fs) ≡ cond b (g f) [] ++ joined g fs
+joined-by g true fs f = refl
+joined-by g false fs f = refl
 
-pub joined-more : (ss : List Slot) (i m : ℕ) (r : Record) → i < length ss → joined (field-bytes r) (standing (drop i ss) m) ≡ slot-bytes r (getD ss i no-slot) m ++ joined (field-bytes r) (standing (drop (i + 1) ss) (m / 2))
-joined-more ss i m r h = ap (joined (field-bytes r)) (standing-more ss i m h) ∙ joined-by r (odd m) _ _
+pub joined-more : (g : Field → List ℕ) (ss : List Slot) (i m : ℕ) → i < length ss → joined g (standing (drop i ss) m) ≡ slot-part g (getD ss i no-slot) m ++ joined g (standing (drop (i + 1) ss) (m / 2))
+joined-more g ss i m h = ap (joined g) (standing-more ss i m h) ∙ joined-by g (odd m) _ _
 
 -- a test that came out true settles a disjunction, and one that came out false leaves the rest
 pub settled : (x y b : Bool) → b ≡ (x || y) → true ≡ x → true ≡ b

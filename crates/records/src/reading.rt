@@ -1,7 +1,7 @@
 // Reading a record from bytes.
 ghost use mathlib.Core.Path.{_≡_};
 ghost use mathlib.Core.Bool.{cond};
-ghost use Prim.Native.Nat.{_+_, _≤_, _<_};
+ghost use Prim.Native.Nat.{_+_, _-_, _≤_, _<_};
 ghost use lib.ListN.{length, drop};
 ghost use Rattle.std.specs.Vec.{made};
 ghost use Rattle.std.specs.declared.result.Result.the-variants.{Ok, Err};
@@ -110,7 +110,7 @@ fn fill(slots: &[Slot], map: u16, bytes: &[u8]) -> Record
 /// The fields behind the bit map, and how long the record is with its kind and its map.
 fn read_fields(kind: Kind, map: u16, bytes: &[u8]) -> Result<(usize, Record), Cause>
     ensures value { λ r. ⌜ r ≡ parse-fields kind map (now (bytes .entry)) ⌝ }
-    ensures within { λ r. ⌜ made r (λ q. q .0 ≤ 3 + length (now (bytes .entry))) ⌝ }
+    ensures within { λ r. ⌜ made r (λ q. (3 ≤ q .0) × (q .0 ≤ 3 + length (now (bytes .entry)))) ⌝ }
 {
     let slots = kind.slots();
     let size = size_of(slots, map);
@@ -148,7 +148,7 @@ fn read_stump(bytes: &[u8]) -> Cause
 /// How long the record is that the bytes begin with.
 fn measure(bytes: &[u8]) -> Result<usize, Cause>
     ensures value { λ r. ⌜ r ≡ measure-of (now (bytes .entry)) ⌝ }
-    ensures within { λ r. ⌜ made r (λ n. n ≤ length (now (bytes .entry))) ⌝ }
+    ensures within { λ r. ⌜ made r (λ n. (3 ≤ n) × (n ≤ length (now (bytes .entry)))) ⌝ }
 {
     let [letter, low, high, rest @ ..] = bytes else {
         return Err(read_stump(bytes));
@@ -171,7 +171,7 @@ fn measure(bytes: &[u8]) -> Result<usize, Cause>
 /// The record that the bytes begin with: its kind letter, its length and its fields.
 fn read_front(bytes: &[u8]) -> Result<(char, usize, Record), Cause>
     ensures value { λ r. ⌜ r ≡ parse (now (bytes .entry)) ⌝ }
-    ensures within { λ r. ⌜ made r (λ q. q .1 ≤ length (now (bytes .entry))) ⌝ }
+    ensures within { λ r. ⌜ made r (λ q. (3 ≤ q .1) × (q .1 ≤ length (now (bytes .entry)))) ⌝ }
 {
     let [letter, low, high, rest @ ..] = bytes else {
         return Err(read_stump(bytes));
@@ -184,20 +184,24 @@ fn read_front(bytes: &[u8]) -> Result<(char, usize, Record), Cause>
     Ok((letter, len, fields))
 }
 
-/// Reads the record that begins at a place: its kind letter, and where the next record begins. Its fields go into the
-/// record that is lent, which a refusal leaves as it was.
-pub fn read(bytes: &[u8], at: usize, out: &mut Record) -> Result<(char, usize), Refusal>
-    ensures answer { λ r. ⌜ r ≡ read-answer (now (bytes .entry)) at ⌝ }
-    ensures out { λ _. ⌜ now (out .exit) ≡ read-record (now (bytes .entry)) at (now (out .entry)) ⌝ }
-    ensures back { λ _. ⌜ ReadWrite ⌝ }
+/// The bytes from a place on: none, where the place is past the end.
+fn tail(bytes: &[u8], at: usize) -> &[u8]
+    ensures value { λ r. ⌜ now r ≡ drop at (now (bytes .entry)) ⌝ }
+    ensures len { λ r. ⌜ length (now r) ≡ length (now (bytes .entry)) - at ⌝ }
 {
     if at > bytes.len() {
-        return Err(Refusal {
-            cause: Cause::CutShort,
-            place: at,
-        });
+        return &[];
     }
-    match read_front(&bytes[at..]) {
+    let (_, rest) = bytes.split_at(at);
+    rest
+}
+
+fn read_into(bytes: &[u8], at: usize, out: &mut Record) -> Result<(char, usize), Refusal>
+    ensures answer { λ r. ⌜ r ≡ read-answer (now (bytes .entry)) at ⌝ }
+    ensures out { λ _. ⌜ now (out .exit) ≡ read-record (now (bytes .entry)) at (now (out .entry)) ⌝ }
+    ensures within { λ r. ⌜ made r (λ q. (at + 3 ≤ q .1) × (q .1 ≤ length (now (bytes .entry)))) ⌝ }
+{
+    match read_front(tail(bytes, at)) {
         Ok((kind, len, fields)) => {
             *out = fields;
             Ok((kind, at + len))
@@ -206,17 +210,23 @@ pub fn read(bytes: &[u8], at: usize, out: &mut Record) -> Result<(char, usize), 
     }
 }
 
+/// Reads the record that begins at a place: its kind letter, and where the next record begins. Its fields go into the
+/// record that is lent, which a refusal leaves as it was.
+pub fn read(bytes: &[u8], at: usize, out: &mut Record) -> Result<(char, usize), Refusal>
+    ensures answer { λ r. ⌜ r ≡ read-answer (now (bytes .entry)) at ⌝ }
+    ensures out { λ _. ⌜ now (out .exit) ≡ read-record (now (bytes .entry)) at (now (out .entry)) ⌝ }
+    ensures within { λ r. ⌜ made r (λ q. (at + 3 ≤ q .1) × (q .1 ≤ length (now (bytes .entry)))) ⌝ }
+    ensures back { λ _. ⌜ ReadWrite ⌝ }
+{
+    read_into(bytes, at, out)
+}
+
 /// Where the record ends that begins at a place, if that can be told: also where its fields would be refused.
 pub fn skip(bytes: &[u8], at: usize) -> Result<usize, Refusal>
-    ensures { λ r. ⌜ r ≡ skip-answer (now (bytes .entry)) at ⌝ }
+    ensures answer { λ r. ⌜ r ≡ skip-answer (now (bytes .entry)) at ⌝ }
+    ensures within { λ r. ⌜ made r (λ next. (at + 3 ≤ next) × (next ≤ length (now (bytes .entry)))) ⌝ }
 {
-    if at > bytes.len() {
-        return Err(Refusal {
-            cause: Cause::CutShort,
-            place: at,
-        });
-    }
-    match measure(&bytes[at..]) {
+    match measure(tail(bytes, at)) {
         Ok(len) => Ok(at + len),
         Err(cause) => Err(Refusal { cause, place: at }),
     }

@@ -5,6 +5,7 @@ ghost use mathlib.Core.List.{[]};
 ghost use Prim.Native.Nat.{_+_, _%_, _≤_};
 ghost use lib.ListN.{length};
 ghost use Rattle.std.specs.Joined.{joined};
+ghost use Rattle.std.specs.Vec.{made};
 ghost use Rattle.std.specs.declared.result.Result.the-variants.{Ok, Err};
 ghost use Rattle.records.specs.Bytes.{field-bytes, odd, size, standing, taken as taken-of, value-bytes};
 ghost use Rattle.records.specs.Layout.{field-of, kind-of};
@@ -86,7 +87,8 @@ fn put_fields(out: &mut [u8], start: usize, slots: &[Slot], fields: &Record)
 
 /// Where the next record would go, or why this one is refused.
 fn judge(letter: char, fields: &Record, room: usize, at: usize) -> Result<usize, Cause>
-    ensures { λ r. ⌜ r ≡ judge-write letter (now (fields .entry)) room at ⌝ }
+    ensures value { λ r. ⌜ r ≡ judge-write letter (now (fields .entry)) room at ⌝ }
+    ensures within { λ r. ⌜ made r (λ next. (at + 3 ≤ next) × (next ≤ room)) ⌝ }
 {
     let Some(kind) = Kind::of(letter) else {
         return Err(Cause::UnknownKind);
@@ -146,6 +148,7 @@ fn refused(cause: Cause, at: usize) -> Refusal
 pub fn write(kind: char, fields: &Record, out: &mut [u8], at: usize) -> Result<usize, Refusal>
     ensures answer { λ r. ⌜ r ≡ write-answer kind (now (fields .entry)) (length (now (out .entry))) at ⌝ }
     ensures out { λ _. ⌜ now (out .exit) ≡ write-buffer kind (now (fields .entry)) (now (out .entry)) at ⌝ }
+    ensures within { λ r. ⌜ made r (λ next. (at + 3 ≤ next) × (next ≤ length (now (out .entry)))) ⌝ }
     ensures back { λ _. ⌜ WriteRead ⌝ }
 {
     match judge(kind, fields, out.len(), at) {

@@ -8,14 +8,14 @@ use Rattle.std.proofs.shelf.Lists.{at-drop-all}
 use Rattle.records.specs.Bytes.{field-bytes, standing}
 use Rattle.records.specs.Writing.{over}
 use Rattle.records.proofs.Over.{over-append}
-use Rattle.records.proofs.Turns.{joined-more, slot-bytes, no-slot}
+use Rattle.records.proofs.Turns.{joined-more, slot-part, no-slot}
 use Rattle.records.proofs.writing.put_fields.Needs as need
 
 pub put-field-at-requires : need.put-field-at-requires
 put-field-at-requires c κs =
     let r = c .args .fields .now in
-    let more = joined-more (c .args .slots .now) (c .loop-slot .slot-index) (c .loop-slot .left) r (c .loop-slot-test .taken) in
-    let here = slot-bytes r (getD (c .args .slots .now) (c .loop-slot .slot-index) no-slot) (c .loop-slot .left) in
+    let more = joined-more (field-bytes r) (c .args .slots .now) (c .loop-slot .slot-index) (c .loop-slot .left) (c .loop-slot-test .taken) in
+    let here = slot-part (field-bytes r) (getD (c .args .slots .now) (c .loop-slot .slot-index) no-slot) (c .loop-slot .left) in
     let rest = joined (field-bytes r) (standing (drop (c .loop-slot .slot-index + 1) (c .args .slots .now)) (c .loop-slot .left / 2)) in
     let long = ap length more ∙ length-append here rest in
     omega arith
@@ -23,8 +23,8 @@ put-field-at-requires c κs =
 pub loop-slot-again : need.loop-slot-again
 loop-slot-again c =
     let r = c .args .fields .now in
-    let more = joined-more (c .args .slots .now) (c .loop-slot .slot-index) (c .loop-slot .left) r (c .loop-slot-test .taken) in
-    let here = slot-bytes r (getD (c .args .slots .now) (c .loop-slot .slot-index) no-slot) (c .loop-slot .left) in
+    let more = joined-more (field-bytes r) (c .args .slots .now) (c .loop-slot .slot-index) (c .loop-slot .left) (c .loop-slot-test .taken) in
+    let here = slot-part (field-bytes r) (getD (c .args .slots .now) (c .loop-slot .slot-index) no-slot) (c .loop-slot .left) in
     let rest = joined (field-bytes r) (standing (drop (c .loop-slot .slot-index + 1) (c .args .slots .now)) (c .loop-slot .left / 2)) in
     let long = ap length more ∙ length-append here rest in
     let onto = over-append (c .loop-slot .out) (c .loop-slot .at) here rest in

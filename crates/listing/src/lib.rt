@@ -1,0 +1,3 @@
+// A file of records as lines that a person reads.
+pub mod lines;
+pub mod texts;
