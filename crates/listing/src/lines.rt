@@ -25,7 +25,7 @@ use std::alloc::AllocError;
 use std::alloc::Global;
 
 /// The name of a field.
-pub fn label(field: Field) -> &'static str
+fn label(field: Field) -> &'static str
     ensures { λ r. ⌜ now r ≡ label-of field ⌝ }
 {
     match field {
@@ -188,12 +188,7 @@ fn add_price(text: &mut Vec<u8>, heap: Global, price: Price) -> Result<(), Alloc
 }
 
 /// Adds what a field of a shape holds.
-pub fn add_value(
-    text: &mut Vec<u8>,
-    heap: Global,
-    shape: Shape,
-    value: Value,
-) -> Result<(), AllocError>
+fn add_value(text: &mut Vec<u8>, heap: Global, shape: Shape, value: Value) -> Result<(), AllocError>
     ensures { λ r. ⌜ made r (λ _. vec-items (now (text .exit)) ≡ vec-items (now (text .entry)) ++ value-text shape value) ⌝ }
 {
     match value {

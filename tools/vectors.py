@@ -1,0 +1,504 @@
+#!/usr/bin/env python3
+"""Makes the sample of the program `recvectors`: hand-made vectors of the record reader and writer, and their outcomes.
+
+Writes crates/recvectors/stdin (the vectors, a command to a line) and crates/recvectors/stdout (what the program must
+print on them). The bytes of the vectors are written out by hand below, field by field. The outcomes are computed by the
+second implementation of the record format in morning.py, and not by the program's code, so that the two check each
+other. Run it as `python3 -B tools/vectors.py`.
+
+    # any text                        a comment
+    read HEX..                        lists the bytes
+    at PLACE HEX..                    reads the record at that place, and passes over it
+    write KIND MAP SIZE AT HEX..      reads the record, and writes it as KIND with the bit map MAP into SIZE bytes at AT
+"""
+
+from pathlib import Path
+
+from morning import KINDS, LETTERS, PRICES, WIDTH, encode, lacks, listing, read, wrong
+
+# Here the bytes of a field stand together; in the file every byte stands by itself.
+VECTORS = """\
+# readings at a place: nothing there, the end, past the end, the highest offset; the second record, and inside the first
+at 0
+at 6 55 0700 02 09 59
+at 7 55 0700 02 09 59
+at 18446744073709551615 55 0700 02 09 59
+at 0 55 0700 02 09 59 43 0000
+at 6 55 0700 02 09 59 43 0000
+at 1 55 0700 02 09 59 43 0000
+at 3 7a 55 07 55 0700 02 09 59
+# after 4 and 5 the end is known, after 1, 2 and 3 it is not
+at 0 55 0300 02 09 55 0700 02 09 59
+at 1 ff 55 0700 02 09 5a 43 0000
+at 0 75 0700 02 09 59
+at 0 55 0700 02 09
+at 0 55 0f00 02 09 59
+# U user: distinct bytes; highest and lowest
+read 55 0700 02 09 59 55 0700 ff ff 4e 55 0700 00 00 59
+# S symbol: distinct bytes; highest and lowest; names with signs at the borders of what is printed as it is
+read 53 0700 4142434445464748 01020304 1112131415161718
+read 53 0700 ffffffffffffffff ffffffff ffffffffffffffff 53 0700 0000000000000000 00000000 0000000000000000
+read 53 0700 1f2021225b5c7e7f 64000000 00286bee00000000
+# O open: distinct bytes; highest and lowest
+read 4f 0100 01020304 4f 0100 ffffffff 4f 0100 00000000
+# R entry: distinct bytes; highest; lowest; the example of the docs
+read 52 ff01 05 4142434445464748 0102030405060708 42 11121314 4c21222324 31323334 41424344 15
+read 52 ff01 ff ffffffffffffffff ffffffffffffffff 53 ffffffff 4cffffffff ffffffff ffffffff 1f
+read 52 ff01 00 0000000000000000 0000000000000000 42 00000000 4c00000000 00000000 00000000 00
+read 52 7f01 02 4142432020202020 0a00000000000000 42 10270000 4c08430f00 d0070000 09
+# R without what may lack, at B; minimum, expiry, shown alone, at O, M and L; the first and the last recipient
+read 52 3f00 05 4142434445464748 0102030405060708 53 11121314 4200000000
+read 52 7f00 05 4142434445464748 0102030405060708 53 11121314 4f00000000 31323334
+read 52 bf00 05 4142434445464748 0100000000000000 53 11121314 4d00000000 41424344
+read 52 3f01 05 4142434445464748 0000000000000080 53 11121314 4c21222324 0a
+# Q quote: distinct bytes; highest; lowest
+read 51 ff00 05 0102 1112 21222324 4c31323334 4c41424344 51525354 61626364
+read 51 ff00 ff ffff ffff ffffffff 4cffffffff 4cffffffff ffffffff ffffffff \
+     51 ff00 00 0000 0000 00000000 4c00000000 4c00000000 00000000 00000000
+# Q with one leg: selling, buying; both legs without the rest; each of old, minimum and expiry alone
+read 51 1b00 05 0102 21222324 4200000000 \
+     51 2b00 05 0102 21222324 4f00000000 \
+     51 3b00 05 0102 21222324 4d00000000 4c41424344
+read 51 1f00 05 0102 1112 21222324 4c31323334 \
+     51 6b00 05 0102 21222324 4200000000 51525354 51 9b00 05 0102 21222324 4f00000000 61626364
+# P pull, X cancel, B book: distinct bytes; highest and lowest
+read 50 0300 05 0102 50 0300 ff ffff 50 0300 00 0000
+read 58 0300 05 0102 58 0300 ff ffff 58 0300 00 0000
+read 42 0300 05 0102 42 0300 ff ffff 42 0300 00 0000
+# A accept: distinct bytes; highest; lowest
+read 41 ff0f 05 0102 11121314 4b 2122 3132 4142 5152 6162 7172 8182 9192
+read 41 ff0f ff ffff ffffffff 43 ffff ffff ffff ffff ffff ffff ffff ffff \
+     41 ff0f 00 0000 00000000 4b 0000 0000 0000 0000 0000 0000 0000 0000
+# A without what may lack; floor alone, rest alone; each further quote alone; gaps
+read 41 1300 05 0102 2122
+read 41 1700 05 0102 11121314 2122 41 1b00 05 0102 43 2122
+read 41 3300 05 0102 2122 3132 41 5300 05 0102 2122 4142 41 9300 05 0102 2122 5152 41 1301 05 0102 2122 6162 \
+     41 1302 05 0102 2122 7172 41 1304 05 0102 2122 8182 41 1308 05 0102 2122 9192
+read 41 5305 05 0102 2122 4142 6162 8182
+# T clock: distinct bytes; highest and lowest
+read 54 0100 01020304 54 0100 ffffffff 54 0100 00000000
+# M post: distinct bytes; highest and lowest; without its prices
+read 4d 0700 4142434445464748 01020304 11121314
+read 4d 0700 ffffffffffffffff ffffffff ffffffff 4d 0700 0000000000000000 00000000 00000000
+read 4d 0100 4142434445464748
+# K price: every letter and leg
+read 4b 0700 4142434445464748 42 53
+read 4b 0700 ffffffffffffffff 4f 42 4b 0700 0000000000000000 4d 53
+# V view: a user; highest and lowest
+read 56 0100 05 56 0100 ff 56 0100 00
+# C close
+read 43 0000
+# r request: distinct bytes; highest; lowest; the example of the docs
+read 72 ff00 0102 4142434445464748 11121314 42 21222324 4c31323334 51525354 05
+read 72 ff00 ffff ffffffffffffffff ffffffff 53 ffffffff 4cffffffff ffffffff ff \
+     72 ff00 0000 0000000000000000 00000000 42 00000000 4c00000000 00000000 00
+read 72 4f00 0100 4142432020202020 c04dc103 42 d0070000
+# r without what may lack; each of side, open, limit, minimum and requestor alone
+read 72 0700 0102 4142434445464748 11121314
+read 72 0f00 0102 4142434445464748 11121314 53 72 1700 0102 4142434445464748 11121314 21222324
+read 72 2700 0102 4142434445464748 11121314 4d00000000 72 4700 0102 4142434445464748 11121314 51525354 \
+     72 8700 0102 4142434445464748 11121314 05
+# q quote: distinct bytes; highest; lowest; without prices; sells alone; buys alone
+read 71 7f00 0102 1112 21222324 31323334 41424344 51525354 61626364
+read 71 7f00 ffff ffff ffffffff ffffffff ffffffff ffffffff ffffffff \
+     71 7f00 0000 0000 00000000 00000000 00000000 00000000 00000000
+read 71 6700 0102 1112 21222324 51525354 61626364 \
+     71 6f00 0102 1112 21222324 31323334 51525354 61626364 \
+     71 7700 0102 1112 21222324 41424344 51525354 61626364
+# t trade: distinct bytes; highest and lowest; without the flag
+read 74 3f00 0102 4142434445464748 42 11121314 21222324 4c524753
+read 74 3f00 ffff ffffffffffffffff 53 ffffffff ffffffff 4c524753 \
+     74 3f00 0000 0000000000000000 42 00000000 00000000 4c524753
+read 74 1f00 0102 4142434445464748 53 11121314 21222324
+# e executable quote: distinct bytes; highest and lowest
+read 65 0700 0102 11121314 21222324 65 0700 ffff ffffffff ffffffff 65 0700 0000 00000000 00000000
+# 1: no such kind: z, 0, lower-case u, E, bytes that are no letters
+read 7a 0000
+read 30 0100 05
+read 75 0700 02 09 59
+read 45 0700 0102 11121314 21222324
+read 00 0000
+read ff ffff
+# 1: one byte only, two bytes only: it is not 2
+read 7a
+read 30
+read 75
+read ff
+read 7a 00
+# nothing at all: nothing to refuse
+read
+# 2: a known kind alone
+read 55
+read 52
+read 43
+# 2: a known kind and one byte of its map
+read 55 07
+read 43 00
+read 65 07
+# 2: each kind one byte before its end (C is above); all of them with their last byte are read above
+read 55 0700 02 09
+read 53 0700 4142434445464748 01020304 11121314151617
+read 4f 0100 010203
+read 52 ff01 05 4142434445464748 0102030405060708 42 11121314 4c21222324 31323334 41424344
+read 51 ff00 05 0102 1112 21222324 4c31323334 4c41424344 51525354 616263
+read 50 0300 05 01
+read 58 0300 05 01
+read 41 ff0f 05 0102 11121314 4b 2122 3132 4142 5152 6162 7172 8182 91
+read 54 0100 010203
+read 4d 0700 4142434445464748 01020304 111213
+read 4b 0700 4142434445464748 42
+read 56 0100
+read 42 0300 05 01
+read 72 ff00 0102 4142434445464748 11121314 42 21222324 4c31323334 51525354
+read 71 7f00 0102 1112 21222324 31323334 41424344 51525354 616263
+read 74 3f00 0102 4142434445464748 42 11121314 21222324 4c5247
+read 65 0700 0102 11121314 212223
+# 2: no field there; cut within a name, a price and a field in the middle
+read 52 ff01
+read 53 0700 41424344454647
+read 51 1b00 05 0102 21222324 42000000
+read 72 8700 0102 4142434445464748 111213
+# foreign bits take no byte: 2 where a byte is wanting, 3 where everything is there; bit 3, bit 15, all bits
+read 55 0f00 02 09
+read 55 0f00 02 09 59
+read 55 0780 02 09
+read 55 0780 02 09 59
+read 55 ffff 02 09 59
+read 43 0080
+read 43 ffff
+# 3: each kind's lowest foreign bit, with everything there
+read 53 0f00 4142434445464748 01020304 1112131415161718
+read 4f 0300 01020304
+read 52 ff03 05 4142434445464748 0102030405060708 42 11121314 4c21222324 31323334 41424344 15
+read 51 ff01 05 0102 1112 21222324 4c31323334 4c41424344 51525354 61626364
+read 50 0700 05 0102
+read 58 0700 05 0102
+read 41 ff1f 05 0102 11121314 4b 2122 3132 4142 5152 6162 7172 8182 9192
+read 54 0300 01020304
+read 4d 0f00 4142434445464748 01020304 11121314
+read 4b 0f00 4142434445464748 42 53
+read 56 0300 05
+read 42 0700 05 0102
+read 43 0100
+read 72 ff01 0102 4142434445464748 11121314 42 21222324 4c31323334 51525354 05
+read 71 ff00 0102 1112 21222324 31323334 41424344 51525354 61626364
+read 74 7f00 0102 4142434445464748 42 11121314 21222324 4c524753
+read 65 0f00 0102 11121314 21222324
+# 4: each field that may not lack, in turn; then nothing at all but the map
+read 55 0600 09 59 55 0500 02 59 55 0300 02 09 55 0000
+read 53 0600 01020304 1112131415161718 53 0500 4142434445464748 1112131415161718 \
+     53 0300 4142434445464748 01020304 53 0000
+read 4f 0000 54 0000 56 0000
+read 52 3e00 4142434445464748 0102030405060708 42 11121314 4c21222324 \
+     52 3d00 05 0102030405060708 42 11121314 4c21222324 \
+     52 3b00 05 4142434445464748 42 11121314 4c21222324 \
+     52 3700 05 4142434445464748 0102030405060708 11121314 4c21222324 \
+     52 2f00 05 4142434445464748 0102030405060708 42 4c21222324 \
+     52 1f00 05 4142434445464748 0102030405060708 42 11121314 52 0000
+read 51 1a00 0102 21222324 4c31323334 51 1900 05 21222324 4c31323334 51 1300 05 0102 4c31323334 51 0000
+read 50 0200 0102 50 0100 05 50 0000 58 0200 0102 58 0100 05 58 0000 42 0200 0102 42 0100 05 42 0000
+read 41 1200 0102 2122 41 1100 05 2122 41 0300 05 0102 41 0000
+read 4b 0600 42 53 4b 0500 4142434445464748 53 4b 0300 4142434445464748 42 4b 0000
+read 72 0600 4142434445464748 11121314 72 0500 0102 11121314 72 0300 0102 4142434445464748 72 0000
+read 71 6600 1112 21222324 51525354 61626364 71 6500 0102 21222324 51525354 61626364 \
+     71 6300 0102 1112 51525354 61626364 71 4700 0102 1112 21222324 61626364 \
+     71 2700 0102 1112 21222324 51525354 71 0000
+read 74 1e00 4142434445464748 42 11121314 21222324 74 1d00 0102 42 11121314 21222324 \
+     74 1b00 0102 4142434445464748 11121314 21222324 74 1700 0102 4142434445464748 42 21222324 \
+     74 0f00 0102 4142434445464748 42 11121314 74 0000
+read 65 0600 11121314 21222324 65 0500 0102 21222324 65 0300 0102 11121314 65 0000
+# 4: Q without legs, without and with all else; A without its first quote though others stand
+read 51 0b00 05 0102 21222324 \
+     51 cf00 05 0102 1112 21222324 51525354 61626364
+read 41 e30f 05 0102 3132 4142 5152 6162 7172 8182 9192
+# 4: M with a bid alone, an offer alone, no name, nothing
+read 4d 0300 4142434445464748 01020304 \
+     4d 0500 4142434445464748 11121314 \
+     4d 0600 01020304 11121314 \
+     4d 0000
+# 5: late letters X, y, n, code 0
+read 55 0700 02 09 58 55 0700 02 09 79 55 0700 02 09 6e 55 0700 02 09 00
+# 5: sides L, b, s, in R, r and t
+read 52 3f00 05 4142434445464748 0102030405060708 4c 11121314 4c21222324 \
+     72 0f00 0102 4142434445464748 11121314 62 \
+     74 1f00 0102 4142434445464748 73 11121314 21222324
+# 5: what becomes of the rest: k, c, B
+read 41 1b00 05 0102 6b 2122 41 1b00 05 0102 63 2122 41 1b00 05 0102 42 2122
+# 5: price letters L, b, o, m, S; legs M, b, s, L
+read 4b 0700 4142434445464748 4c 53 4b 0700 4142434445464748 62 53 4b 0700 4142434445464748 6f 53 \
+     4b 0700 4142434445464748 6d 53 4b 0700 4142434445464748 53 53
+read 4b 0700 4142434445464748 42 4d 4b 0700 4142434445464748 4f 62 4b 0700 4142434445464748 4d 73 \
+     4b 0700 4142434445464748 42 4c
+# 5: letters of a price: S, l, b, code 0, K, in limit of R and r, in selling and in buying
+read 52 3f00 05 4142434445464748 0102030405060708 42 11121314 5300000000 \
+     72 2700 0102 4142434445464748 11121314 6c31323334
+read 51 1b00 05 0102 21222324 6200000000 51 2b00 05 0102 21222324 0000000000
+read 51 3b00 05 0102 21222324 4b00000000 4d00000000 51 3b00 05 0102 21222324 4d00000000 4b00000000
+# 5: a number that is not zero at B, O and M, in each of its bytes
+read 52 3f00 05 4142434445464748 0102030405060708 42 11121314 4201000000 \
+     72 2700 0102 4142434445464748 11121314 4f00010000
+read 51 1b00 05 0102 21222324 4d00000100 51 2b00 05 0102 21222324 4d00000001 \
+     51 3b00 05 0102 21222324 4c31323334 42ffffffff
+# shown 31 is fine; 5: shown 32, 128, 255
+read 52 3f01 05 4142434445464748 0102030405060708 42 11121314 4c21222324 1f \
+     52 3f01 05 4142434445464748 0102030405060708 42 11121314 4c21222324 20 \
+     52 3f01 05 4142434445464748 0102030405060708 42 11121314 4c21222324 80 \
+     52 3f01 05 4142434445464748 0102030405060708 42 11121314 4c21222324 ff
+# 5: the flag with each of its letters wrong, in lower case, backwards, of zeros
+read 74 3f00 0102 4142434445464748 42 11121314 21222324 58524753 \
+     74 3f00 0102 4142434445464748 42 11121314 21222324 4c724753 \
+     74 3f00 0102 4142434445464748 42 11121314 21222324 4c520053 \
+     74 3f00 0102 4142434445464748 42 11121314 21222324 4c524752
+read 74 3f00 0102 4142434445464748 42 11121314 21222324 6c726773 \
+     74 3f00 0102 4142434445464748 42 11121314 21222324 5347524c \
+     74 3f00 0102 4142434445464748 42 11121314 21222324 00000000
+# two causes and more: 1 before 2, before 3
+read 7a ff
+read 7a ffff
+# 2 before 3, before 4, before 5, before all of them
+read 4b 0f00 4142434445464748 42
+read 55 0600 09
+read 4b 0700 4142434445464748 4c
+read 4b 0e00 4c
+# 3 before 4, before 5, before both
+read 55 0e00 09 59
+read 55 0f00 02 09 58
+read 55 0e00 09 58
+# 4 before 5: in U, in Q with a wrong leg, in t with a wrong flag
+read 55 0600 09 58
+read 51 1a00 0102 21222324 4d00000001
+read 74 3d00 0102 42 11121314 21222324 4c524758
+# several records: every kind; twelve; a 4 and a 5 in the middle, and on
+read 55 0700 02 09 59 53 0700 4142434445464748 01020304 1112131415161718 4f 0100 01020304 \
+     52 3f00 05 4142434445464748 0102030405060708 42 11121314 4d00000000 51 2b00 05 0102 21222324 4c41424344 \
+     50 0300 05 0102 58 0300 05 0102 41 1300 05 0102 2122 54 0100 01020304 4d 0100 4142434445464748 \
+     4b 0700 4142434445464748 4d 42 56 0100 05 42 0300 05 0102 43 0000 72 0700 0102 4142434445464748 11121314 \
+     71 6700 0102 1112 21222324 51525354 61626364 74 1f00 0102 4142434445464748 53 11121314 21222324 \
+     65 0700 0102 11121314 21222324
+read 43 0000 43 0000 43 0000 43 0000 43 0000 43 0000 43 0000 43 0000 43 0000 43 0000 43 0000 43 0000
+read 55 0700 02 09 59 55 0600 09 59 56 0100 05
+read 55 0700 02 09 59 55 0700 02 09 58 56 0100 05
+read 55 0600 09 59 55 0700 02 09 58 51 0b00 05 0102 21222324 43 0000
+# several records: a 3, a 1 and a 2 in the middle, where it stops
+read 55 0700 02 09 59 56 0300 05 43 0000
+read 55 0700 02 09 59 76 0100 05 43 0000
+read 55 0700 02 09 59 53 0700 56 0100 05 43 0000
+read 55 0600 09 59 56 0300 05 55 0700 02 09 58
+# bytes after a record: a byte of no kind, a kind alone, a kind and one byte of its map
+read 43 0000 00
+read 43 0000 43
+read 55 0700 02 09 59 55 07
+# write: each kind at 0 into just enough room
+write U 7 6 0 55 0700 02 09 59
+write S 7 23 0 53 0700 4142434445464748 01020304 1112131415161718
+write O 1 7 0 4f 0100 01020304
+write R 511 39 0 52 ff01 05 4142434445464748 0102030405060708 42 11121314 4c21222324 31323334 41424344 15
+write Q 255 30 0 51 ff00 05 0102 1112 21222324 4c31323334 4c41424344 51525354 61626364
+write P 3 6 0 50 0300 05 0102
+write X 3 6 0 58 0300 05 0102
+write A 4095 27 0 41 ff0f 05 0102 11121314 4b 2122 3132 4142 5152 6162 7172 8182 9192
+write T 1 7 0 54 0100 01020304
+write M 7 19 0 4d 0700 4142434445464748 01020304 11121314
+write K 7 13 0 4b 0700 4142434445464748 4f 53
+write V 1 4 0 56 0100 05
+write B 3 6 0 42 0300 05 0102
+write C 0 3 0 43 0000
+write r 255 32 0 72 ff00 0102 4142434445464748 11121314 42 21222324 4c31323334 51525354 05
+write q 127 27 0 71 7f00 0102 1112 21222324 31323334 41424344 51525354 61626364
+write t 63 26 0 74 3f00 0102 4142434445464748 42 11121314 21222324 4c524753
+write e 7 13 0 65 0700 0102 11121314 21222324
+# write: each kind at an offset with room around it; highest values
+write U 7 10 2 55 0700 ff ff 4e
+write S 7 27 3 53 0700 ffffffffffffffff ffffffff ffffffffffffffff
+write O 1 9 1 4f 0100 ffffffff
+write R 511 43 2 52 ff01 ff ffffffffffffffff ffffffffffffffff 53 ffffffff 4cffffffff ffffffff ffffffff 1f
+write Q 255 36 5 51 ff00 ff ffff ffff ffffffff 4cffffffff 4cffffffff ffffffff ffffffff
+write P 3 9 2 50 0300 ff ffff
+write X 3 8 1 58 0300 ff ffff
+write A 4095 32 3 41 ff0f ff ffff ffffffff 43 ffff ffff ffff ffff ffff ffff ffff ffff
+write T 1 10 2 54 0100 ffffffff
+write M 7 22 1 4d 0700 ffffffffffffffff ffffffff ffffffff
+write K 7 16 2 4b 0700 ffffffffffffffff 4d 53
+write V 1 7 1 56 0100 ff
+write B 3 9 1 42 0300 ff ffff
+write C 0 7 3 43 0000
+write r 255 36 2 72 ff00 ffff ffffffffffffffff ffffffff 53 ffffffff 4cffffffff ffffffff ff
+write q 127 30 1 71 7f00 ffff ffff ffffffff ffffffff ffffffff ffffffff ffffffff
+write t 63 30 3 74 3f00 ffff ffffffffffffffff 53 ffffffff ffffffff 4c524753
+write e 7 16 1 65 0700 ffff ffffffff ffffffff
+# write: lowest values; the end of the record at the end of the buffer; bytes after the record that is read
+write R 511 41 2 52 ff01 00 0000000000000000 0000000000000000 42 00000000 4c00000000 00000000 00000000 00
+write q 127 28 1 71 7f00 0000 0000 00000000 00000000 00000000 00000000 00000000
+write U 7 8 0 55 0700 02 09 59 43 0000
+# write, 27: each kind one byte short, at 0 or at an offset
+write U 7 5 0 55 0700 02 09 59
+write S 7 22 0 53 0700 4142434445464748 01020304 1112131415161718
+write O 1 8 2 4f 0100 01020304
+write R 511 38 0 52 ff01 05 4142434445464748 0102030405060708 42 11121314 4c21222324 31323334 41424344 15
+write Q 255 30 1 51 ff00 05 0102 1112 21222324 4c31323334 4c41424344 51525354 61626364
+write P 3 5 0 50 0300 05 0102
+write X 3 6 1 58 0300 05 0102
+write A 4095 26 0 41 ff0f 05 0102 11121314 4b 2122 3132 4142 5152 6162 7172 8182 9192
+write T 1 6 0 54 0100 01020304
+write M 7 20 2 4d 0700 4142434445464748 01020304 11121314
+write K 7 12 0 4b 0700 4142434445464748 4f 53
+write V 1 3 0 56 0100 05
+write B 3 8 3 42 0300 05 0102
+write C 0 2 0 43 0000
+write r 255 31 0 72 ff00 0102 4142434445464748 11121314 42 21222324 4c31323334 51525354 05
+write q 127 27 1 71 7f00 0102 1112 21222324 31323334 41424344 51525354 61626364
+write t 63 25 0 74 3f00 0102 4142434445464748 42 11121314 21222324 4c524753
+write e 7 14 2 65 0700 0102 11121314 21222324
+# write, 27: no room at all; the offset at the end, past it, so far past it that the sum does not fit 32 or 64 bits
+write C 0 0 0 43 0000
+write U 7 6 6 55 0700 02 09 59
+write U 7 6 7 55 0700 02 09 59
+write U 7 6 1000 55 0700 02 09 59
+write U 7 6 4294967295 55 0700 02 09 59
+write U 7 6 18446744073709551610 55 0700 02 09 59
+write U 7 6 18446744073709551615 55 0700 02 09 59
+# write: the map leaves out what may lack
+write R 63 31 1 52 ff01 05 4142434445464748 0102030405060708 42 11121314 4c21222324 31323334 41424344 15
+write R 127 34 0 52 ff01 05 4142434445464748 0102030405060708 42 11121314 4c21222324 31323334 41424344 15
+write Q 27 16 1 51 ff00 05 0102 1112 21222324 4c31323334 4c41424344 51525354 61626364
+write Q 43 15 0 51 ff00 05 0102 1112 21222324 4c31323334 4c41424344 51525354 61626364
+write A 19 9 0 41 ff0f 05 0102 11121314 4b 2122 3132 4142 5152 6162 7172 8182 9192
+write A 1363 16 1 41 ff0f 05 0102 11121314 4b 2122 3132 4142 5152 6162 7172 8182 9192
+write M 1 12 0 4d 0700 4142434445464748 01020304 11121314
+write r 79 22 0 72 ff00 0102 4142434445464748 11121314 42 21222324 4c31323334 51525354 05
+write q 103 19 0 71 7f00 0102 1112 21222324 31323334 41424344 51525354 61626364
+write q 119 24 1 71 7f00 0102 1112 21222324 31323334 41424344 51525354 61626364
+write t 31 22 0 74 3f00 0102 4142434445464748 42 11121314 21222324 4c524753
+# write: the map adds what lacked, with its stated value
+write R 511 39 0 52 3f00 05 4142434445464748 0102030405060708 42 11121314 4d00000000
+write Q 223 25 0 51 1b00 05 0102 21222324 4200000000
+write A 4095 27 0 41 1300 05 0102 2122
+write M 7 19 0 4d 0100 4142434445464748
+write r 215 26 0 72 0700 0102 4142434445464748 11121314
+write q 127 27 0 71 6700 0102 1112 21222324 51525354 61626364
+# write: as another kind, which takes the fields that both have, and the stated values of the others
+write V 1 4 0 55 0700 02 09 59
+write B 3 6 0 50 0300 05 0102
+write A 31 14 0 55 0700 02 09 59
+write q 127 27 0 55 0700 02 09 59
+write e 7 13 0 71 7f00 0102 1112 21222324 31323334 41424344 51525354 61626364
+write r 255 32 0 52 ff01 05 4142434445464748 0102030405060708 42 11121314 4c21222324 31323334 41424344 15
+write t 31 22 0 52 ff01 05 4142434445464748 0102030405060708 42 11121314 4c21222324 31323334 41424344 15
+write S 7 23 0 4d 0700 4142434445464748 01020304 11121314
+write C 0 4 1 55 0700 02 09 59
+# write, 1: no such kind; with a foreign bit; without room; with both
+write z 7 6 0 55 0700 02 09 59
+write 0 7 8 1 55 0700 02 09 59
+write u 7 6 0 55 0700 02 09 59
+write # 0 3 0 43 0000
+write z 65535 6 0 55 0700 02 09 59
+write z 7 0 0 55 0700 02 09 59
+write E 65535 2 5 55 0700 02 09 59
+# write, 3: the lowest foreign bit, bit 15, all bits; with 4, with 5, with 27
+write U 15 8 1 55 0700 02 09 59
+write U 32775 6 0 55 0700 02 09 59
+write C 1 3 0 43 0000
+write A 8191 27 0 41 ff0f 05 0102 11121314 4b 2122 3132 4142 5152 6162 7172 8182 9192
+write R 65535 39 0 52 ff01 05 4142434445464748 0102030405060708 42 11121314 4c21222324 31323334 41424344 15
+write U 14 8 2 55 0700 02 09 59
+write K 15 13 0 55 0700 02 09 59
+write U 15 2 0 55 0700 02 09 59
+write U 15 6 18446744073709551615 55 0700 02 09 59
+# write, 4: a field lacks by the map; Q without legs; M with one price; with 5, with 27
+write U 6 6 1 55 0700 02 09 59
+write U 0 6 0 55 0700 02 09 59
+write Q 207 30 0 51 ff00 05 0102 1112 21222324 4c31323334 4c41424344 51525354 61626364
+write M 3 19 2 4d 0700 4142434445464748 01020304 11121314
+write M 5 19 0 4d 0700 4142434445464748 01020304 11121314
+write A 4079 27 0 41 ff0f 05 0102 11121314 4b 2122 3132 4142 5152 6162 7172 8182 9192
+write q 95 27 0 71 7f00 0102 1112 21222324 31323334 41424344 51525354 61626364
+write K 6 13 0 55 0700 02 09 59
+write U 3 2 0 55 0700 02 09 59
+write U 3 0 9 55 0700 02 09 59
+# write, 5: the letters of code 0 of a user's record, as R, K and t; a late letter; a leg; a limit; a flag of zeros
+write R 63 32 1 55 0700 02 09 59
+write K 7 13 0 55 0700 02 09 59
+write t 63 30 2 55 0700 02 09 59
+write U 7 6 0 56 0100 05
+write Q 59 20 0 51 1b00 05 0102 21222324 4200000000
+write r 39 22 0 72 0700 0102 4142434445464748 11121314
+write t 63 26 0 74 1f00 0102 4142434445464748 53 11121314 21222324
+# write, 5: with 27
+write K 7 5 0 55 0700 02 09 59
+write t 63 0 0 74 1f00 0102 4142434445464748 53 11121314 21222324
+write R 63 4 7 55 0700 02 09 59
+"""
+
+
+def absent(field):
+    """What a field holds that does not stand."""
+    if field in ("name", "flag"):
+        return bytes(WIDTH[field])
+    if field in PRICES:
+        return "\0", 0
+    if field in LETTERS:
+        return "C" if field == "rest" else "\0"
+    return {"minimum": 1, "floor": 1, "expiry": 63_000_000}.get(field, 0)
+
+
+def written(kind, bits, size, at, data):
+    """What `recvectors` prints on a write."""
+    _, refusal, fields, _ = read(data, 0)
+    assert not refusal, data
+    buffer = b"\xee" * size
+    own = KINDS.get(kind, [])
+    standing = {field: fields.get(field, absent(field)) for bit, field in enumerate(own) if bits >> bit & 1}
+    if kind not in KINDS:
+        answer = f"no 1 R {at}"
+    elif bits >> len(own):
+        answer = f"no 3 R {at}"
+    elif lacks(kind, standing):
+        answer = f"no 4 R {at}"
+    elif any(wrong(field, value) for field, value in standing.items()):
+        answer = f"no 5 R {at}"
+    else:
+        record = encode(kind, standing)
+        end = at + len(record)
+        if end > size:
+            answer = "no 27 B 0"
+        else:
+            answer = f"ok {end}"
+            buffer = buffer[:at] + record + buffer[end:]
+    return " ".join([answer, *buffer.hex(" ").split()]) + "\n"
+
+
+def placed(at, data):
+    """What `recvectors` prints on a reading at a place: the outcome of the reader, and of passing over the record."""
+    kind, refusal, _, end = read(data, at) if at < len(data) else ("?", 2, {}, at)
+    first = f"no {refusal} R {at}" if refusal else f"ok {kind} {end}"
+    second = f"no {refusal} R {at}" if refusal in (1, 2, 3) else f"ok {end}"
+    return f"{first}, {second}\n"
+
+
+def run(row):
+    """One row of the vectors: its line in the input, and what is printed after the echo of the line."""
+    if row.startswith("#"):
+        return row, ""
+    words = row.split()
+    head = {"read": 1, "at": 2, "write": 5}[words[0]]
+    data = bytes.fromhex(" ".join(words[head:]))
+    line = " ".join([*words[:head], *data.hex(" ").split()])
+    if head == 1:
+        return line, listing(data)
+    if head == 2:
+        return line, placed(int(words[1]), data)
+    kind, bits, size, at = words[1], *map(int, words[2:head])
+    assert len(kind) == 1 and bits < 1 << 16
+    return line, written(kind, bits, size, at, data)
+
+
+def main():
+    folder = Path(__file__).resolve().parent.parent / "crates" / "recvectors"
+    folder.mkdir(parents=True, exist_ok=True)
+    pairs = [run(row) for row in VECTORS.splitlines()]
+    (folder / "stdin").write_bytes("".join(f"{line}\n" for line, _ in pairs).encode("ascii"))
+    (folder / "stdout").write_bytes("".join(f"> {line}\n{after}" for line, after in pairs).encode("ascii"))
+
+
+if __name__ == "__main__":
+    main()
