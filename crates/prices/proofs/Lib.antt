@@ -1,0 +1,2 @@
+mod Echo
+mod Mids
