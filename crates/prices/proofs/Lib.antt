@@ -1,2 +1,2 @@
 mod Echo
-mod Mids
+pub mod Mids

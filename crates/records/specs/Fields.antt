@@ -275,3 +275,91 @@ index field.Flag = 40
 
 abbrev pub same : Field → Field → Bool
 same f g = eqb (index f) (index g)
+
+-- the number, letter, price, name or flag that a value is; nothing where it is of another kind
+abbrev pub number-in : Value → ℕ
+number-in (Number n) = n
+number-in (Letter c) = 0
+number-in (Quoted p) = 0
+number-in (Name bs) = 0
+number-in (Letters bs) = 0
+
+abbrev pub letter-in : Value → ℕ
+letter-in (Number n) = 0
+letter-in (Letter c) = c
+letter-in (Quoted p) = 0
+letter-in (Name bs) = 0
+letter-in (Letters bs) = 0
+
+abbrev pub price-in : Value → Price
+price-in (Number n) = no-price
+price-in (Letter c) = no-price
+price-in (Quoted p) = p
+price-in (Name bs) = no-price
+price-in (Letters bs) = no-price
+
+abbrev pub name-in : Value → List ℕ
+name-in (Number n) = []
+name-in (Letter c) = []
+name-in (Quoted p) = []
+name-in (Name bs) = bs
+name-in (Letters bs) = []
+
+abbrev pub flag-in : Value → List ℕ
+flag-in (Number n) = []
+flag-in (Letter c) = []
+flag-in (Quoted p) = []
+flag-in (Name bs) = []
+flag-in (Letters bs) = bs
+
+-- every field as the value would give it
+abbrev pub holding : Value → Record
+holding v =
+    record {
+      map = 0;
+      user = number-in v;
+      rank = number-in v;
+      late = letter-in v;
+      name = name-in v;
+      tick = number-in v;
+      large = number-in v;
+      day = number-in v;
+      recipients = number-in v;
+      side = letter-in v;
+      quantity = number-in v;
+      limit = price-in v;
+      minimum = number-in v;
+      expiry = number-in v;
+      shown = number-in v;
+      request = number-in v;
+      old = number-in v;
+      selling = price-in v;
+      buying = price-in v;
+      quote = number-in v;
+      floor = number-in v;
+      rest = letter-in v;
+      second = number-in v;
+      third = number-in v;
+      fourth = number-in v;
+      fifth = number-in v;
+      sixth = number-in v;
+      seventh = number-in v;
+      eighth = number-in v;
+      time = number-in v;
+      bid = number-in v;
+      offer = number-in v;
+      letter = letter-in v;
+      leg = letter-in v;
+      «open» = number-in v;
+      requestor = number-in v;
+      remaining = number-in v;
+      sells = number-in v;
+      buys = number-in v;
+      trade = number-in v;
+      price = number-in v;
+      flag = flag-in v;
+    }
+
+-- the record with another value in one field
+abbrev pub put : Field → Value → Record → Record
+put f v r = kept (same f) (holding v) r

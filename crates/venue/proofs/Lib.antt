@@ -1,0 +1,5 @@
+mod Counting
+mod Filling
+mod Owing
+mod Sorting
+mod Told

@@ -1,0 +1,5 @@
+use Rattle.venue.proofs.Counting.{numbers-count-up}
+use Rattle.venue.proofs.theorems.numbers_count_up.Needs as need
+
+pub returns : need.returns
+returns c = numbers-count-up

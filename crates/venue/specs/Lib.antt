@@ -1,0 +1,9 @@
+pub mod Amounts
+pub mod Calls
+pub mod Days
+pub mod Debts
+pub mod Laws
+pub mod Model
+pub mod Numbers
+pub mod Pages
+pub mod Trading

@@ -1,0 +1,42 @@
+// Theorems about the model of a day, each on the contract of a function. What the functions return says nothing.
+ghost use Rattle.venue.specs.Amounts.{Amounts};
+ghost use Rattle.venue.specs.Laws.{Fills-add-up, Fills-by-turns, Granted, Refused-leaves, Sorted-quotes, Told-causes};
+ghost use Rattle.venue.specs.Numbers.{Numbers-count-up};
+
+/// A refused call leaves the day; a refusal has its cause and none has a smaller number; without a cause there is none.
+pub fn refusals_are_told() -> u8
+    ensures leaves { λ _. ⌜ Refused-leaves ⌝ }
+    ensures told { λ _. ⌜ Told-causes ⌝ }
+    ensures granted { λ _. ⌜ Granted ⌝ }
+{
+    0
+}
+
+/// Quotes stand in the order of the four keys, with none lost and none added.
+pub fn quotes_are_sorted() -> u8
+    ensures { λ _. ⌜ Sorted-quotes ⌝ }
+{
+    0
+}
+
+/// Fills are made turn by turn, and add up.
+pub fn fills_add_up() -> u8
+    ensures turns { λ _. ⌜ Fills-by-turns ⌝ }
+    ensures totals { λ _. ⌜ Fills-add-up ⌝ }
+{
+    0
+}
+
+/// Requests, quotes and trades are numbered from 1 without gaps.
+pub fn numbers_count_up() -> u8
+    ensures { λ _. ⌜ Numbers-count-up ⌝ }
+{
+    0
+}
+
+/// The definitions give the amounts worked out by hand.
+pub fn amounts_stand() -> u8
+    ensures { λ _. ⌜ Amounts ⌝ }
+{
+    0
+}
