@@ -6,7 +6,7 @@ use Prim.Native.Nat.{ℕ, zero, suc, _+_, _-_, _≤_}
 use native.Mathlib.Numerals.{add-one}
 use native.Mathlib.Nat.{add-zero, zero-add}
 use native.Mathlib.Omega.{arith}
-use lib.ListN.{length, set, length-append, length-set}
+use lib.ListN.{length, length-append}
 use Rattle.std.specs.declared.option.Option.{Option}
 use Rattle.std.specs.declared.option.Option.the-variants.{Some, None}
 use Rattle.std.specs.declared.result.Result.{Result}
@@ -21,7 +21,8 @@ use Rattle.venue.specs.Days.{Day, place-of}
 use Rattle.venue.specs.Trading.{renumbered, price-now}
 use Rattle.venue.specs.Pages.{numbers}
 use Rattle.venue.specs.Calls.{Call, Call.enter, Call.offer, Call.pull, Call.cancel, Call.accept, Call.file, Call.post, Call.move-clock, Call.ask-price, Call.view, Call.book, Call.close, fills-of}
-use Rattle.venue.specs.Model.{Reply, judge, reply, answer-by, answer, apply, next-by, next, after, ended-if, settled-quotes, is-over, without-old, without-quote, filed, a-price-of, entered, offered, opened, leg-asked}
+use Rattle.venue.specs.Model.{Reply, judge, reply, answer, apply, next-by, next, after, ended-if, settled-quotes, is-over, without-old, without-quote, filed, a-price-of, entered, offered, open-day, leg-asked}
+use Rattle.venue.proofs.Replies.{replied, reply-is, priced-only, length-renumbered}
 use Rattle.venue.specs.Numbers.{range, request-given, quote-given, trades-owed, trades-given, given-by, all-given, Counted, Numbers-count-up}
 
 -- the numbers up to n and then those of a range of m
@@ -42,11 +43,6 @@ numbers-one n k e = ap (λ i. numbers n ++ i ∷ []) e ∙ numbers-on n 1 ∙ ap
 none-given : (n m : ℕ) → m ≡ n → numbers n ++ [] ≡ numbers m
 none-given n m e = append-nil (numbers n) ∙ ap numbers (sym e)
 
--- an answer that is given comes from the reply
-replied : (d : Day) (c : Call) (v : Result Unit Cause) (r : Reply) → answer-by d c v ≡ Ok r → reply d c ≡ Ok r
-replied d c (Ok x) r e = e
-replied d c (Err x) r e = let z : _≡_ {A = ℕ} 0 1 = cc in absurd (omega arith)
-
 module _ (f : Call → Reply → List ℕ) (len : Day → ℕ) (one : (d : Day) (c : Call) (r : Reply) → reply d c ≡ Ok r → numbers (len d) ++ f c r ≡ numbers (len (apply d c))) where
   step-by : (d : Day) (c : Call) (q : Result Reply Refusal) → answer d c ≡ q → numbers (len d) ++ given-by (f c) q ≡ numbers (len (next-by d c q))
   step-by d c (Ok r) e = one d c r (replied d c (judge d c) r e)
@@ -58,10 +54,6 @@ module _ (f : Call → Reply → List ℕ) (len : Day → ℕ) (one : (d : Day) 
       sym (append-assoc (numbers (len d)) (given-by (f c) (answer d c)) (all-given f (next d c) cs))
       ∙ ap (λ l. l ++ all-given f (next d c) cs) (step-by d c (answer d c) refl)
       ∙ run cs (next d c)
-
-length-renumbered : {X : Type 0} (xs : List X) (n : ℕ) (x : X) → length (renumbered xs n x) ≡ length xs
-length-renumbered xs zero x = refl
-length-renumbered xs (suc n) x = length-set xs n x
 
 length-mapped : {X Y : Type 0} (f : X → Y) (xs : List X) → length (map f xs) ≡ length xs
 length-mapped f [] = refl
@@ -84,13 +76,10 @@ length-filed : (n : ℕ) (ts : List Trade) (t : ℕ) → length (filed ts t n) �
 length-filed zero ts t = refl
 length-filed (suc n) ts t = length-filed n _ (t + 1) ∙ length-renumbered ts t _
 
-number-is : (r s : Reply) → _≡_ {A = Result Reply Refusal} (Ok r) (Ok s) → s ≡ r
-number-is r s e = cc
-
 -- each call gives one request, one quote or its trades more, or nothing
 requests-one : (d : Day) (c : Call) (r : Reply) → reply d c ≡ Ok r → numbers (length (d .requests)) ++ request-given c r ≡ numbers (length (apply d c .requests))
 requests-one d (enter e) r h =
-    let n = ap (λ (s : Reply). s .number) (number-is _ r h) in
+    let n = ap (λ (s : Reply). s .number) (reply-is _ r h) in
     let m = length-append (d .requests) (entered d e ∷ []) in
     numbers-one (length (d .requests)) (r .number) n ∙ ap numbers (n ∙ sym m)
 requests-one d (offer o) r h = none-given (length (d .requests)) (length (d .requests)) refl
@@ -108,7 +97,7 @@ requests-one d close r h = none-given (length (d .requests)) _ (length-mapped _ 
 quotes-one : (d : Day) (c : Call) (r : Reply) → reply d c ≡ Ok r → numbers (length (d .quotes)) ++ quote-given c r ≡ numbers (length (apply d c .quotes))
 quotes-one d (enter e) r h = none-given (length (d .quotes)) (length (d .quotes)) refl
 quotes-one d (offer o) r h =
-    let n = ap (λ (s : Reply). s .number) (number-is _ r h) in
+    let n = ap (λ (s : Reply). s .number) (reply-is _ r h) in
     let m = length-append (without-old (o .old) (d .quotes)) (offered o ∷ []) in
     let k = length-without-old (o .old) (d .quotes) in
     let all : r .number ≡ length (without-old (o .old) (d .quotes) ++ offered o ∷ []) = omega arith in
@@ -124,36 +113,31 @@ quotes-one d (view u room) r h = none-given (length (d .quotes)) (length (d .quo
 quotes-one d (book u n room) r h = none-given (length (d .quotes)) (length (d .quotes)) refl
 quotes-one d close r h = none-given (length (d .quotes)) _ (length-mapped _ (d .quotes))
 
--- a price owes nothing
-priced-only : (q : Result ℕ Refusal) (r : Reply) → a-price-of q ≡ Ok r → r .debt ≡ None
-priced-only (Ok n) r h = ap (λ (s : Reply). s .debt) (number-is _ r h)
-priced-only (Err e) r h = let z : _≡_ {A = ℕ} 0 1 = cc in absurd (omega arith)
-
 owes-none : (n m : ℕ) (r : Reply) → r .debt ≡ None → m ≡ n → numbers n ++ trades-owed (r .debt) ≡ numbers m
 owes-none n m r e k = ap (λ o. numbers n ++ trades-owed o) e ∙ none-given n m k
 
 trades-one : (d : Day) (c : Call) (r : Reply) → reply d c ≡ Ok r → numbers (length (d .trades)) ++ trades-given c r ≡ numbers (length (apply d c .trades))
-trades-one d (enter e) r h = owes-none (length (d .trades)) (length (d .trades)) r (ap (λ (s : Reply). s .debt) (number-is _ r h)) refl
-trades-one d (offer o) r h = owes-none (length (d .trades)) (length (d .trades)) r (ap (λ (s : Reply). s .debt) (number-is _ r h)) refl
-trades-one d (pull u q) r h = owes-none (length (d .trades)) (length (d .trades)) r (ap (λ (s : Reply). s .debt) (number-is _ r h)) refl
-trades-one d (cancel u n) r h = owes-none (length (d .trades)) (length (d .trades)) r (ap (λ (s : Reply). s .debt) (number-is _ r h)) refl
+trades-one d (enter e) r h = owes-none (length (d .trades)) (length (d .trades)) r (ap (λ (s : Reply). s .debt) (reply-is _ r h)) refl
+trades-one d (offer o) r h = owes-none (length (d .trades)) (length (d .trades)) r (ap (λ (s : Reply). s .debt) (reply-is _ r h)) refl
+trades-one d (pull u q) r h = owes-none (length (d .trades)) (length (d .trades)) r (ap (λ (s : Reply). s .debt) (reply-is _ r h)) refl
+trades-one d (cancel u n) r h = owes-none (length (d .trades)) (length (d .trades)) r (ap (λ (s : Reply). s .debt) (reply-is _ r h)) refl
 trades-one d (accept a) r h =
     let was = length (d .trades) in
     let ts = fills-of d a .trades in
-    let owed = ap (λ (s : Reply). trades-owed (s .debt)) (number-is _ r h) in
+    let owed = ap (λ (s : Reply). trades-owed (s .debt)) (reply-is _ r h) in
     let many : was + length ts + 1 - (was + 1) ≡ length ts = omega arith in
     ap (λ l. numbers was ++ l) owed ∙ ap (λ k. numbers was ++ range (was + 1) k) many ∙ numbers-on was (length ts) ∙ ap numbers (sym (length-append (d .trades) ts))
-trades-one d (file p) r h = owes-none (length (d .trades)) _ r (ap (λ (s : Reply). s .debt) (number-is _ r h)) (length-filed (p .last + 1 - p .first) (d .trades) (p .first))
-trades-one d (post p) r h = owes-none (length (d .trades)) (length (d .trades)) r (ap (λ (s : Reply). s .debt) (number-is _ r h)) refl
-trades-one d (move-clock t) r h = owes-none (length (d .trades)) (length (d .trades)) r (ap (λ (s : Reply). s .debt) (number-is _ r h)) refl
+trades-one d (file p) r h = owes-none (length (d .trades)) _ r (ap (λ (s : Reply). s .debt) (reply-is _ r h)) (length-filed (p .last + 1 - p .first) (d .trades) (p .first))
+trades-one d (post p) r h = owes-none (length (d .trades)) (length (d .trades)) r (ap (λ (s : Reply). s .debt) (reply-is _ r h)) refl
+trades-one d (move-clock t) r h = owes-none (length (d .trades)) (length (d .trades)) r (ap (λ (s : Reply). s .debt) (reply-is _ r h)) refl
 trades-one d (ask-price k) r h = owes-none (length (d .trades)) (length (d .trades)) r (priced-only (price-now d (valueOr (place-of d (k .name)) 0) (leg-asked (k .leg)) (record { letter = k .letter; number = 0 })) r h) refl
-trades-one d (view u room) r h = owes-none (length (d .trades)) (length (d .trades)) r (ap (λ (s : Reply). s .debt) (number-is _ r h)) refl
-trades-one d (book u n room) r h = owes-none (length (d .trades)) (length (d .trades)) r (ap (λ (s : Reply). s .debt) (number-is _ r h)) refl
-trades-one d close r h = owes-none (length (d .trades)) (length (d .trades)) r (ap (λ (s : Reply). s .debt) (number-is _ r h)) refl
+trades-one d (view u room) r h = owes-none (length (d .trades)) (length (d .trades)) r (ap (λ (s : Reply). s .debt) (reply-is _ r h)) refl
+trades-one d (book u n room) r h = owes-none (length (d .trades)) (length (d .trades)) r (ap (λ (s : Reply). s .debt) (reply-is _ r h)) refl
+trades-one d close r h = owes-none (length (d .trades)) (length (d .trades)) r (ap (λ (s : Reply). s .debt) (reply-is _ r h)) refl
 
 pub numbers-count-up : Numbers-count-up
-numbers-count-up n users symbols rows screen cs =
-    let d = opened n users symbols rows screen in
+numbers-count-up o cs =
+    let d = open-day o in
     record {
       requests = run request-given (λ e. length (e .requests)) requests-one cs d;
       quotes = run quote-given (λ e. length (e .quotes)) quotes-one cs d;

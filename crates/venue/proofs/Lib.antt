@@ -1,5 +1,6 @@
 mod Counting
 mod Filling
 mod Owing
+mod Replies
 mod Sorting
 mod Told

@@ -23,7 +23,7 @@ use Rattle.venue.specs.declared.rows.Trade.{Trade}
 use Rattle.venue.specs.declared.rows.Report.{Report}
 use Rattle.venue.specs.Days.{Day, no-user}
 use Rattle.venue.specs.Calls.{Call, Call.enter, Call.offer, Call.accept, Call.post}
-use Rattle.venue.specs.Model.{Reply, opened, after, answer, next}
+use Rattle.venue.specs.Model.{Reply, Opening, open-day, after, answer, next}
 
 abbrev pub abc : List ℕ
 abc = codes "ABC     "
@@ -32,12 +32,18 @@ abbrev pub user : ℕ → User
 user rank = record { entered = true; rank = rank; late = false }
 
 -- users 0 to 3, of whom 0 asks; one symbol with tick 100; the program's stack of screens over an empty sheet
+abbrev pub opening : ℕ → Opening
+opening n =
+    record {
+      number = n;
+      users = user 9 ∷ user 1 ∷ user 0 ∷ user 5 ∷ replicate 60 no-user;
+      symbols = record { name = abc; ticks = record { tick = 100 }; large = 1 } ∷ [];
+      rows = replicate 64 Never;
+      screen = uncrossed (fresh 60000 bare);
+    }
+
 abbrev pub morning : Day
-morning =
-    opened 1 (user 9 ∷ user 1 ∷ user 0 ∷ user 5 ∷ replicate 60 no-user)
-    (record { name = abc; ticks = record { tick = 100 }; large = 1 } ∷ [])
-    (replicate 64 Never)
-    (uncrossed (fresh 60000 bare))
+morning = open-day (opening 1)
 
 abbrev pub at-number : ℕ → Price
 at-number n = record { letter = 76; number = n }
@@ -68,16 +74,18 @@ abbrev pub selling : ℕ → ℕ → Price → Option ℕ → Call
 selling u n p least =
     offer (record { user = u; request = 1; old = None; quantity = n; selling = Some p; buying = None; minimum = least; expiry = None })
 
--- the day with its request and three quotes
-abbrev pub ready : ℕ → Day
-ready n =
-    after morning
-    (posting
+-- a request and three quotes, and the day with them
+abbrev pub quoting : ℕ → List Call
+quoting n =
+    posting
     ∷ buying n
     ∷ selling 1 6000 at-mid None
     ∷ selling 2 3000 (at-number 1000200) None
     ∷ selling 3 4000 (at-number 1000100) (Some 3000)
-    ∷ [])
+    ∷ []
+
+abbrev pub ready : ℕ → Day
+ready n = after morning (quoting n)
 
 abbrev pub accept-all : Option ℕ → Call
 accept-all floor =

@@ -14,15 +14,12 @@ use Rattle.std.specs.declared.option.Option.the-variants.{Some, None}
 use Rattle.std.specs.declared.result.Result.{Result}
 use Rattle.std.specs.declared.result.Result.the-variants.{Ok, Err}
 use Rattle.records.specs.declared.causes.Refusal.{Refusal}
-use Rattle.prices.specs.declared.rows.Row.{Row}
-use Rattle.prices.specs.Rows.{Screen}
-use Rattle.venue.specs.declared.rows.User.{User}
-use Rattle.venue.specs.declared.rows.Symbol.{Symbol}
 use Rattle.venue.specs.declared.rows.Report.{Report}
 use Rattle.venue.specs.declared.rows.Trade.{Trade}
 use Rattle.venue.specs.Days.{Day, numbered}
 use Rattle.venue.specs.Calls.{Call, Call.enter, Call.offer, Call.pull, Call.cancel, Call.accept, Call.file, Call.post, Call.move-clock, Call.ask-price, Call.view, Call.book, Call.close}
-use Rattle.venue.specs.Model.{Reply, opened, answer, next}
+use Rattle.venue.specs.Amounts.{opening, quoting, accept-all}
+use Rattle.venue.specs.Model.{Reply, Opening, open-day, answer, next}
 
 -- the days, and the debts that were handed out and not brought back
 pub record World : Type 0 where
@@ -106,17 +103,6 @@ abbrev pub covered : List Report → ℕ → ℕ → ℕ
 covered [] day t = 0
 covered (r ∷ rs) day t = covers r day t + covered rs day t
 
--- what a day opens with
-pub record Opening : Type 0 where
-  pub number : ℕ
-  pub users : List User
-  pub symbols : List Symbol
-  pub rows : List Row
-  pub screen : Screen
-
-abbrev pub open-day : Opening → Day
-open-day o = opened (o .number) (o .users) (o .symbols) (o .rows) (o .screen)
-
 -- no two with the same number
 abbrev pub Different : List Day → Type 0
 Different [] = Unit {0}
@@ -132,3 +118,22 @@ Debts =
     → Different (map open-day os)
     → (es : List Event)
     → let w : World = steps (record { days = map open-day os; debts = [] }) es in All (Balanced (w .debts)) (w .days)
+
+-- two days of which the first trades three times: the debt is refused by the second day and stays out, and is brought back
+-- by the first
+abbrev pub two-days : World
+two-days = record { days = map open-day (opening 1 ∷ opening 2 ∷ []); debts = [] }
+
+abbrev pub traded : World
+traded = steps two-days (map (call-on 0) (quoting 10000 ++ accept-all None ∷ []))
+
+abbrev pub filed-twice : World
+filed-twice = steps traded (present 0 1 ∷ present 0 0 ∷ present 0 0 ∷ [])
+
+pub record Sample : Type 0 where
+  pub apart : Different (two-days .days)
+  pub out : traded .debts ≡ record { day = 1; first = 1; last = 3 } ∷ []
+  pub kept : steps traded (present 0 1 ∷ []) .debts ≡ record { day = 1; first = 1; last = 3 } ∷ []
+  pub back : filed-twice .debts ≡ []
+  pub unfiled-then : map (λ d. unfiled-at d 2) (traded .days) ≡ 1 ∷ 0 ∷ []
+  pub filed-now : map (λ d. unfiled-at d 2) (filed-twice .days) ≡ 0 ∷ 0 ∷ []

@@ -344,3 +344,14 @@ opened n users symbols rows screen =
       rows = rows;
       screen = screen;
     }
+
+-- what a day opens with
+pub record Opening : Type 0 where
+  pub number : ℕ
+  pub users : List User
+  pub symbols : List Symbol
+  pub rows : List Row
+  pub screen : Screen
+
+abbrev pub open-day : Opening → Day
+open-day o = opened (o .number) (o .users) (o .symbols) (o .rows) (o .screen)

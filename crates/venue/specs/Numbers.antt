@@ -10,15 +10,11 @@ use Rattle.std.specs.declared.option.Option.the-variants.{Some, None}
 use Rattle.std.specs.declared.result.Result.{Result}
 use Rattle.std.specs.declared.result.Result.the-variants.{Ok, Err}
 use Rattle.records.specs.declared.causes.Refusal.{Refusal}
-use Rattle.prices.specs.declared.rows.Row.{Row}
-use Rattle.prices.specs.Rows.{Screen}
-use Rattle.venue.specs.declared.rows.User.{User}
-use Rattle.venue.specs.declared.rows.Symbol.{Symbol}
 use Rattle.venue.specs.declared.rows.Report.{Report}
 use Rattle.venue.specs.Days.{Day}
 use Rattle.venue.specs.Pages.{numbers}
 use Rattle.venue.specs.Calls.{Call, Call.enter, Call.offer, Call.pull, Call.cancel, Call.accept, Call.file, Call.post, Call.move-clock, Call.ask-price, Call.view, Call.book, Call.close}
-use Rattle.venue.specs.Model.{Reply, opened, after, answer, next}
+use Rattle.venue.specs.Model.{Reply, Opening, open-day, after, answer, next}
 
 -- n numbers from a number on
 abbrev pub range : ℕ → ℕ → List ℕ
@@ -77,6 +73,4 @@ pub record Counted (d : Day) (cs : List Call) : Type 0 where
   pub trades : all-given trades-given d cs ≡ numbers (length (after d cs .trades))
 
 abbrev pub Numbers-count-up : Type 0
-Numbers-count-up =
-    (n : ℕ) (users : List User) (symbols : List Symbol) (rows : List Row) (screen : Screen) (cs : List Call)
-    → Counted (opened n users symbols rows screen) cs
+Numbers-count-up = (o : Opening) (cs : List Call) → Counted (open-day o) cs

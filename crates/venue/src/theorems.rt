@@ -1,5 +1,6 @@
 // Theorems about the model of a day, each on the contract of a function. What the functions return says nothing.
 ghost use Rattle.venue.specs.Amounts.{Amounts};
+ghost use Rattle.venue.specs.Debts.{Debts, Sample};
 ghost use Rattle.venue.specs.Laws.{Fills-add-up, Fills-by-turns, Granted, Refused-leaves, Sorted-quotes, Told-causes};
 ghost use Rattle.venue.specs.Numbers.{Numbers-count-up};
 
@@ -30,6 +31,14 @@ pub fn fills_add_up() -> u8
 /// Requests, quotes and trades are numbered from 1 without gaps.
 pub fn numbers_count_up() -> u8
     ensures { λ _. ⌜ Numbers-count-up ⌝ }
+{
+    0
+}
+
+/// Over several days, the unfiled trades are exactly those on the debts that are out, each on one; and a sample of it.
+pub fn debts_balance() -> u8
+    ensures law { λ _. ⌜ Debts ⌝ }
+    ensures sample { λ _. ⌜ Sample ⌝ }
 {
     0
 }
