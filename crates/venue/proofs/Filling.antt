@@ -70,7 +70,7 @@ fills-by-turns d n line =
     subst (λ ts. Turns d n (open-of d n) (d .remains) line ts (fills d n line .open-left) (fills d n line .remains)) (sym (r .added)) (r .turns)
 
 -- what turns take of the request
-turns-add : (d : Day) (n o : ℕ) (rs : List ℕ) (cs : List Candidate) (ts : List Trade) (o′ : ℕ) (rs′ : List ℕ) → Turns d n o rs cs ts o′ rs′ → total ts + o′ ≡ o
+pub turns-add : (d : Day) (n o : ℕ) (rs : List ℕ) (cs : List Candidate) (ts : List Trade) (o′ : ℕ) (rs′ : List ℕ) → Turns d n o rs cs ts o′ rs′ → total ts + o′ ≡ o
 turns-add d n o rs cs ts o′ rs′ (finished _ _) = omega arith
 turns-add d n o rs cs ts o′ rs′ (passed _ _ c cs′ _ _ _ h t) = turns-add d n o rs cs′ ts o′ rs′ t
 turns-add d n o rs cs ts o′ rs′ (traded _ _ c cs′ ts′ _ _ h k t) = let r = turns-add d n _ _ cs′ ts′ o′ rs′ t in omega arith

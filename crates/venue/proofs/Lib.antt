@@ -1,6 +1,10 @@
 mod Counting
+mod Dealing
+mod Ending
 mod Filling
 mod Owing
 mod Replies
 mod Sorting
+mod Staying
+mod Summing
 mod Told

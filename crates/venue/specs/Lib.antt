@@ -6,4 +6,5 @@ pub mod Laws
 pub mod Model
 pub mod Numbers
 pub mod Pages
+pub mod Quantities
 pub mod Trading
