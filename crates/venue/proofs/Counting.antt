@@ -72,7 +72,7 @@ length-without-old : (o : Option ℕ) (qs : List Quote) → length (without-old 
 length-without-old None qs = refl
 length-without-old (Some q) qs = length-renumbered qs q _
 
-length-filed : (n : ℕ) (ts : List Trade) (t : ℕ) → length (filed ts t n) ≡ length ts
+pub length-filed : (n : ℕ) (ts : List Trade) (t : ℕ) → length (filed ts t n) ≡ length ts
 length-filed zero ts t = refl
 length-filed (suc n) ts t = length-filed n _ (t + 1) ∙ length-renumbered ts t _
 

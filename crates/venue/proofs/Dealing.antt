@@ -50,14 +50,11 @@ sides : (side : Side) (asker user quoter : ℕ) → asker ≡ user → Between s
 sides Buy asker user quoter e = (e, refl)
 sides Sell asker user quoter e = (refl, e)
 
-module _ (d : Day) (a : Acceptance) (own : request-of d (a .request) .requestor ≡ a .user) where
-  abbrev n : ℕ
-  n = a .request
+-- a candidate that may be traded, at its price
+abbrev pub Fit : Day → ℕ → Candidate → Type 0
+Fit d n c = (executable d n (c .quote) ≡ true) × (c .price ≡ valueOr (quote-price d n (c .quote)) 0)
 
-  -- a candidate that may be traded, at its price
-  abbrev Fit : Candidate → Type 0
-  Fit c = (executable d n (c .quote) ≡ true) × (c .price ≡ valueOr (quote-price d n (c .quote)) 0)
-
+module _ (d : Day) (n : ℕ) where
   all-executable : (qs : List ℕ) → has-inexecutable d n qs ≡ false → All (λ q. executable d n q ≡ true) qs
   all-executable [] h = tt
   all-executable (q ∷ qs) h =
@@ -70,11 +67,21 @@ module _ (d : Day) (a : Acceptance) (own : request-of d (a .request) .requestor 
       let rest = all-once qs (h .1) in
       cond-both (member q qs) (once qs) (q ∷ once qs) (All (λ k. executable d n k ≡ true)) (λ t. rest) (λ f. (h .0, rest))
 
-  all-fit : (qs : List ℕ) → All (λ q. executable d n q ≡ true) qs → All Fit (map (candidate d n) qs)
+  all-fit : (qs : List ℕ) → All (λ q. executable d n q ≡ true) qs → All (Fit d n) (map (candidate d n) qs)
   all-fit [] h = tt
   all-fit (q ∷ qs) h = ((h .0, refl), all-fit qs (h .1))
 
-  good-fill : (c : Candidate) (fill : ℕ) → Fit c → request-of d n .minimum ≤ fill → quote-of d (c .quote) .minimum ≤ fill → Good d a (trade-of-fill d n c fill)
+  -- the quotes of an acceptance, in order
+  pub fit-line : (qs : List ℕ) → has-inexecutable d n qs ≡ false → All (Fit d n) (in-order d n (once qs))
+  fit-line qs h =
+      all-shuffled (Fit d n) (map (candidate d n) (once qs)) (in-order d n (once qs)) (sorted-quotes d n (once qs) .1)
+      (all-fit (once qs) (all-once qs (all-executable qs h)))
+
+module _ (d : Day) (a : Acceptance) (own : request-of d (a .request) .requestor ≡ a .user) where
+  abbrev n : ℕ
+  n = a .request
+
+  good-fill : (c : Candidate) (fill : ℕ) → Fit d n c → request-of d n .minimum ≤ fill → quote-of d (c .quote) .minimum ≤ fill → Good d a (trade-of-fill d n c fill)
   good-fill c fill f least quote-least =
       let q = c .quote in
       let parts = and-parts (is-open (request-of d n .life) && (quote-of d q .live && eqb (quote-of d q .request) n)) _ (f .0) in
@@ -96,7 +103,7 @@ module _ (d : Day) (a : Acceptance) (own : request-of d (a .request) .requestor 
         between = sides (request-of d n .side) (request-of d n .requestor) (a .user) (quote-of d q .user) own;
       }
 
-  good-turns : (o : ℕ) (rs : List ℕ) (cs : List Candidate) (ts : List Trade) (o′ : ℕ) (rs′ : List ℕ) → Turns d n o rs cs ts o′ rs′ → All Fit cs → All (Good d a) ts
+  good-turns : (o : ℕ) (rs : List ℕ) (cs : List Candidate) (ts : List Trade) (o′ : ℕ) (rs′ : List ℕ) → Turns d n o rs cs ts o′ rs′ → All (Fit d n) cs → All (Good d a) ts
   good-turns o rs cs ts o′ rs′ (finished _ _) f = tt
   good-turns o rs cs ts o′ rs′ (passed _ _ c cs′ _ _ _ h t) f = good-turns o rs cs′ ts o′ rs′ t (f .1)
   good-turns o rs cs ts o′ rs′ (traded _ _ c cs′ ts′ _ _ h k t) f = (good-fill c _ (f .0) h k, good-turns _ _ cs′ ts′ o′ rs′ t (f .1))
@@ -107,16 +114,14 @@ new-good d a r e =
     let g = granted (causes d (accept a)) tt tt (judged d (accept a) (judge d (accept a)) r e) in
     let owned = not-false (owns d (a .user) (a .request)) (g .0 .1 .1 .1 .1 .1 .0) in
     let own = eqb-true (request-of d (a .request) .requestor) (a .user) (and-parts (is-open (request-of d (a .request) .life)) _ owned .1) in
-    let qs = once (named (a .quotes)) in
-    let fit = all-fit d a own qs (all-once d a own (named (a .quotes)) (all-executable d a own (named (a .quotes)) (g .0 .1 .1 .1 .1 .1 .1 .0))) in
-    let line = in-order d (a .request) qs in
-    good-turns d a own _ _ line _ _ _ (fills-by-turns d (a .request) line) (all-shuffled _ (map (candidate d (a .request)) qs) line (sorted-quotes d (a .request) qs .1) fit)
+    let line = in-order d (a .request) (once (named (a .quotes))) in
+    good-turns d a own _ _ line _ _ _ (fills-by-turns d (a .request) line) (fit-line d (a .request) (named (a .quotes)) (g .0 .1 .1 .1 .1 .1 .1 .0))
 
-all-by : {X : Type 0} (P Q : X → Type 0) (xs : List X) → ((x : X) → P x → Q x) → All P xs → All Q xs
+pub all-by : {X : Type 0} (P Q : X → Type 0) (xs : List X) → ((x : X) → P x → Q x) → All P xs → All Q xs
 all-by P Q [] f h = tt
 all-by P Q (x ∷ xs) f h = (f x (h .0), all-by P Q xs f (h .1))
 
-all-append : {X : Type 0} (P : X → Type 0) (xs ys : List X) → All P xs → All P ys → All P (xs ++ ys)
+pub all-append : {X : Type 0} (P : X → Type 0) (xs ys : List X) → All P xs → All P ys → All P (xs ++ ys)
 all-append P [] ys h k = k
 all-append P (x ∷ xs) ys h k = (h .0, all-append P xs ys (h .1) k)
 

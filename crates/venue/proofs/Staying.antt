@@ -19,7 +19,7 @@ pub record Begins {X : Type 0} (xs ys : List X) : Type 0 where
   pub rest : List X
   pub whole : ys ≡ xs ++ rest
 
-getD-front : {X : Type 0} (xs ys : List X) (i : ℕ) (none : X) → i < length xs → getD (xs ++ ys) i none ≡ getD xs i none
+pub getD-front : {X : Type 0} (xs ys : List X) (i : ℕ) (none : X) → i < length xs → getD (xs ++ ys) i none ≡ getD xs i none
 getD-front [] ys i none h = absurd (omega arith)
 getD-front (x ∷ xs) ys zero none h = refl
 getD-front (x ∷ xs) ys (suc i) none h = getD-front xs ys i none (omega arith)

@@ -32,17 +32,12 @@ asked rs = map (λ r. r .quantity) rs
 abbrev given : List Quote → List ℕ
 given qs = map (λ q. q .quantity) qs
 
-asked-of : (rs : List Request) (n : ℕ) → numbered no-request rs n .quantity ≡ numbered 0 (asked rs) n
-asked-of rs zero = refl
-asked-of [] (suc n) = refl
-asked-of (r ∷ rs) (suc zero) = refl
-asked-of (r ∷ rs) (suc (suc n)) = asked-of rs (suc n)
-
-given-of : (qs : List Quote) (n : ℕ) → numbered no-quote qs n .quantity ≡ numbered 0 (given qs) n
-given-of qs zero = refl
-given-of [] (suc n) = refl
-given-of (q ∷ qs) (suc zero) = refl
-given-of (q ∷ qs) (suc (suc n)) = given-of qs (suc n)
+-- a number of the row with a number
+pub number-of : {X : Type 0} (g : X → ℕ) (none : X) → g none ≡ 0 → (xs : List X) (n : ℕ) → g (numbered none xs n) ≡ numbered 0 (map g xs) n
+number-of g none z xs zero = z
+number-of g none z [] (suc n) = z
+number-of g none z (x ∷ xs) (suc zero) = refl
+number-of g none z (x ∷ xs) (suc (suc n)) = number-of g none z xs (suc n)
 
 -- one row more
 at-end : (xs : List ℕ) (x k : ℕ) → getD (xs ++ x ∷ []) k 0 ≡ cond (eqb k (length xs)) x (getD xs k 0)
@@ -74,7 +69,7 @@ set-at (x ∷ xs) zero v part (suc k) h = grind (arith, tells)
 set-at (x ∷ xs) (suc i) v part zero h = grind (arith, tells)
 set-at (x ∷ xs) (suc i) v part (suc k) h = let e = set-at xs i v part k h in grind (arith, tells)
 
-renumbered-at : (xs : List ℕ) (n v part k : ℕ) → part + v ≡ numbered 0 xs n → numbered 0 (renumbered xs n v) k + cond (eqb n k) part 0 ≡ numbered 0 xs k
+pub renumbered-at : (xs : List ℕ) (n v part k : ℕ) → part + v ≡ numbered 0 xs n → numbered 0 (renumbered xs n v) k + cond (eqb n k) part 0 ≡ numbered 0 xs k
 renumbered-at xs zero v part k h = grind (arith, tells)
 renumbered-at xs (suc i) v part zero h = grind (arith, tells)
 renumbered-at xs (suc i) v part (suc k) h = let e = set-at xs i v part k h in grind (arith, tells)
@@ -205,7 +200,7 @@ applied-quotes d (book u n room) a = a
 applied-quotes d close a = adds-kept _ _ _ _ (quotes-kept d close) a
 
 -- every call keeps it, carried out or refused
-next-kept : (d : Day) (c : Call) (q : Result Reply Refusal) → Kept d → Kept (next-by d c q)
+pub next-kept : (d : Day) (c : Call) (q : Result Reply Refusal) → Kept d → Kept (next-by d c q)
 next-kept d c (Ok r) k = record { requests = applied-requests d c (k .requests); quotes = applied-quotes d c (k .quotes) }
 next-kept d c (Err e) k = k
 
@@ -213,7 +208,7 @@ after-kept : (cs : List Call) (d : Day) → Kept d → Kept (after d cs)
 after-kept [] d k = k
 after-kept (c ∷ cs) d k = after-kept cs (next d c) (next-kept d c (answer d c) k)
 
-nothing-yet : Adds [] [] (λ n. 0)
+pub nothing-yet : Adds [] [] (λ n. 0)
 nothing-yet = record { long = refl; each = λ n. omega arith }
 
 pub quantities-add-up : Quantities-add-up
@@ -221,6 +216,6 @@ quantities-add-up o cs =
     let d = after (open-day o) cs in
     let k = after-kept cs (open-day o) (record { requests = nothing-yet; quotes = nothing-yet }) in
     record {
-      requests = λ n. k .requests .each n ∙ sym (asked-of (d .requests) n);
-      quotes = λ q. k .quotes .each q ∙ sym (given-of (d .quotes) q);
+      requests = λ n. k .requests .each n ∙ sym (number-of (λ r. r .quantity) no-request refl (d .requests) n);
+      quotes = λ q. k .quotes .each q ∙ sym (number-of (λ r. r .quantity) no-quote refl (d .quotes) q);
     }

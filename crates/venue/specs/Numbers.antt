@@ -3,18 +3,21 @@
 use mathlib.Core.Path.{_≡_}
 use mathlib.Core.List.{List, [], _∷_, _++_}
 use mathlib.Core.Bool.{Bool, true, false, cond}
+use mathlib.Core.Logic.{_≢_}
 use Prim.Native.Nat.{ℕ, zero, suc, _+_, _-_}
 use lib.ListN.{length}
 use Rattle.std.specs.declared.option.Option.{Option}
 use Rattle.std.specs.declared.option.Option.the-variants.{Some, None}
 use Rattle.std.specs.declared.result.Result.{Result}
 use Rattle.std.specs.declared.result.Result.the-variants.{Ok, Err}
+use Rattle.records.specs.declared.causes.Cause.the-variants.{DayFull}
 use Rattle.records.specs.declared.causes.Refusal.{Refusal}
+use Rattle.venue.specs.declared.rows.Acceptance.{Acceptance}
 use Rattle.venue.specs.declared.rows.Report.{Report}
 use Rattle.venue.specs.Days.{Day}
 use Rattle.venue.specs.Pages.{numbers}
 use Rattle.venue.specs.Calls.{Call, Call.enter, Call.offer, Call.pull, Call.cancel, Call.accept, Call.file, Call.post, Call.move-clock, Call.ask-price, Call.view, Call.book, Call.close}
-use Rattle.venue.specs.Model.{Reply, Opening, open-day, after, answer, next}
+use Rattle.venue.specs.Model.{Reply, Opening, open-day, judge, after, answer, next}
 
 -- n numbers from a number on
 abbrev pub range : ℕ → ℕ → List ℕ
@@ -74,3 +77,7 @@ pub record Counted (d : Day) (cs : List Call) : Type 0 where
 
 abbrev pub Numbers-count-up : Type 0
 Numbers-count-up = (o : Opening) (cs : List Call) → Counted (open-day o) cs
+
+-- an acceptance is never refused for want of room for its trades: a quote trades once
+abbrev pub Trades-have-room : Type 0
+Trades-have-room = (o : Opening) (cs : List Call) (a : Acceptance) → judge (after (open-day o) cs) (accept a) ≢ Err DayFull

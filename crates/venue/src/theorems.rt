@@ -2,7 +2,7 @@
 ghost use Rattle.venue.specs.Amounts.{Amounts};
 ghost use Rattle.venue.specs.Debts.{Debts, Sample};
 ghost use Rattle.venue.specs.Laws.{Fills-add-up, Fills-by-turns, Granted, Refused-leaves, Sorted-quotes, Told-causes};
-ghost use Rattle.venue.specs.Numbers.{Numbers-count-up};
+ghost use Rattle.venue.specs.Numbers.{Numbers-count-up, Trades-have-room};
 ghost use Rattle.venue.specs.Quantities.{Entries-stay, Offers-stay, Quantities-add-up, Sample as Quantities-sample, Trades-are-good};
 
 /// A refused call leaves the day; a refusal has its cause and none has a smaller number; without a cause there is none.
@@ -29,9 +29,10 @@ pub fn fills_add_up() -> u8
     0
 }
 
-/// Requests, quotes and trades are numbered from 1 without gaps.
+/// Requests, quotes and trades are numbered from 1 without gaps, and an acceptance always finds room for its trades.
 pub fn numbers_count_up() -> u8
-    ensures { λ _. ⌜ Numbers-count-up ⌝ }
+    ensures gapless { λ _. ⌜ Numbers-count-up ⌝ }
+    ensures room { λ _. ⌜ Trades-have-room ⌝ }
 {
     0
 }
