@@ -68,7 +68,7 @@ length-settled n b [] ms = refl
 length-settled n b (q ∷ qs) [] = ap suc (length-settled n b qs [])
 length-settled n b (q ∷ qs) (m ∷ ms) = ap suc (length-settled n b qs ms)
 
-length-without-old : (o : Option ℕ) (qs : List Quote) → length (without-old o qs) ≡ length qs
+pub length-without-old : (o : Option ℕ) (qs : List Quote) → length (without-old o qs) ≡ length qs
 length-without-old None qs = refl
 length-without-old (Some q) qs = length-renumbered qs q _
 

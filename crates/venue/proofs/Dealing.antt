@@ -92,6 +92,7 @@ module _ (d : Day) (a : Acceptance) (own : request-of d (a .request) .requestor 
       record {
         on = refl;
         own = own;
+        open-then = stands .0;
         live = quote .0;
         quoted = eqb-true (quote-of d q .request) n (quote .1);
         least = least;
@@ -167,6 +168,7 @@ module _ (start : Day) where
             record {
               on = g .on;
               own = g .own;
+              open-then = g .open-then;
               live = g .live;
               quoted = g .quoted;
               least = g .least;

@@ -4,6 +4,7 @@ mod Ending
 mod Filling
 mod Owing
 mod Replies
+mod Resting
 mod Rooming
 mod Sorting
 mod Staying

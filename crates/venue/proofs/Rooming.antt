@@ -33,7 +33,7 @@ use Rattle.venue.proofs.Dealing.{Fit, fit-line, all-by, all-append}
 use Rattle.venue.proofs.Ending.{quotes-after, new-quotes}
 use Rattle.venue.proofs.Filling.{fills-by-turns, turns-add}
 use Rattle.venue.proofs.Replies.{judged, length-renumbered}
-use Rattle.venue.proofs.Staying.{getD-front}
+use Rattle.venue.proofs.Staying.{numbered-front}
 use Rattle.venue.proofs.Summing.{Kept, number-of, next-kept, nothing-yet, renumbered-at}
 use Rattle.venue.proofs.Told.{told-causes}
 
@@ -141,10 +141,6 @@ room-same os ns ns′ ls ls′ ms k k′ en el ek r =
     subst (λ a. Room os a ls′ ms k′) (sym (en ∙ append-nil ns))
     (subst (λ a. Room os ns a ms k′) (sym (el ∙ append-nil ls)) (subst (λ a. Room os ns ls ms a) (sym ek) r))
 
-numbered-front : (os : List ℕ) (v n : ℕ) → n ≤ length os → numbered 0 (os ++ v ∷ []) n ≡ numbered 0 os n
-numbered-front os v zero h = refl
-numbered-front os v (suc i) h = getD-front os (v ∷ []) i 0 (omega arith)
-
 room-entered : (os ns ns′ ls ls′ ms : List ℕ) (v k : ℕ) → ns′ ≡ ns ++ [] → ls′ ≡ ls ++ [] → Room os ns ls ms k → Room (os ++ v ∷ []) ns′ ls′ ms k
 room-entered os ns ns′ ls ls′ ms v k en el r =
     room-same (os ++ v ∷ []) ns ns′ ls ls′ ms k k en el refl
@@ -152,7 +148,7 @@ room-entered os ns ns′ ls ls′ ms v k en el r =
       within = all-by (λ n. n ≤ length os) (λ n. n ≤ length (os ++ v ∷ [])) ns (λ n h. let l = length-append os (v ∷ []) in omega arith) (r .within);
       least = r .least;
       spare =
-          let same = free-same (numbered 0 os) (numbered 0 (os ++ v ∷ [])) ns ms (all-by (λ n. n ≤ length os) (λ n. numbered 0 (os ++ v ∷ []) n ≡ numbered 0 os n) ns (numbered-front os v) (r .within)) in
+          let same = free-same (numbered 0 os) (numbered 0 (os ++ v ∷ [])) ns ms (all-by (λ n. n ≤ length os) (λ n. numbered 0 (os ++ v ∷ []) n ≡ numbered 0 os n) ns (numbered-front 0 os (v ∷ [])) (r .within)) in
           let s = r .spare in
           omega arith;
       full = r .full;

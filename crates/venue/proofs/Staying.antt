@@ -1,7 +1,7 @@
 -- What was entered and offered stays. Assumes nothing.
 use mathlib.Core.Path.{_≡_, refl, sym, ap, _∙_}
 use mathlib.Core.List.{List, [], _∷_, _++_, map, append-assoc, append-nil}
-use Prim.Native.Nat.{ℕ, zero, suc, _+_, _<_}
+use Prim.Native.Nat.{ℕ, zero, suc, _+_, _≤_, _<_}
 use native.Mathlib.Omega.{arith}
 use lib.ListN.{length, getD, length-append, length-map}
 use Rattle.std.specs.declared.result.Result.{Result}
@@ -19,10 +19,14 @@ pub record Begins {X : Type 0} (xs ys : List X) : Type 0 where
   pub rest : List X
   pub whole : ys ≡ xs ++ rest
 
-pub getD-front : {X : Type 0} (xs ys : List X) (i : ℕ) (none : X) → i < length xs → getD (xs ++ ys) i none ≡ getD xs i none
+getD-front : {X : Type 0} (xs ys : List X) (i : ℕ) (none : X) → i < length xs → getD (xs ++ ys) i none ≡ getD xs i none
 getD-front [] ys i none h = absurd (omega arith)
 getD-front (x ∷ xs) ys zero none h = refl
 getD-front (x ∷ xs) ys (suc i) none h = getD-front xs ys i none (omega arith)
+
+pub numbered-front : {X : Type 0} (none : X) (xs ys : List X) (n : ℕ) → n ≤ length xs → numbered none (xs ++ ys) n ≡ numbered none xs n
+numbered-front none xs ys zero h = refl
+numbered-front none xs ys (suc i) h = getD-front xs ys i none (omega arith)
 
 getD-last : {X : Type 0} (xs : List X) (x none : X) → getD (xs ++ x ∷ []) (length xs) none ≡ x
 getD-last [] x none = refl

@@ -2,9 +2,10 @@
 -- Assumes nothing.
 use mathlib.Core.Path.{_≡_}
 use mathlib.Core.List.{List, [], _∷_, _++_, map}
-use mathlib.Core.Bool.{true, cond}
+use mathlib.Core.Bool.{true, false, cond}
 use Prim.Native.Nat.{ℕ, _+_, _≤_}
 use lib.Dec.{eqb}
+use lib.ListN.{length}
 use Rattle.std.specs.shelf.Lists.{All}
 use Rattle.std.specs.declared.option.Option.the-variants.{Some, None}
 use Rattle.std.specs.declared.result.Result.the-variants.{Ok}
@@ -18,7 +19,7 @@ use Rattle.venue.specs.declared.rows.Side.{Side}
 use Rattle.venue.specs.declared.rows.Side.the-variants.{Buy, Sell}
 use Rattle.venue.specs.declared.rows.Trade.{Trade}
 use Rattle.venue.specs.Amounts.{morning, quoting}
-use Rattle.venue.specs.Days.{Day, request-of, quote-of, open-of, remaining-of}
+use Rattle.venue.specs.Days.{Day, request-of, quote-of, open-of, remaining-of, is-open}
 use Rattle.venue.specs.Trading.{quote-price, limit-price}
 use Rattle.venue.specs.Calls.{Call, Call.enter, Call.offer, Call.accept}
 use Rattle.venue.specs.Model.{Reply, Opening, open-day, entered, offered, answer, next, after}
@@ -100,11 +101,20 @@ abbrev pub Between : Side → (asker quoter buyer seller : ℕ) → Type 0
 Between Buy asker quoter buyer seller = (buyer ≡ asker) × (seller ≡ quoter)
 Between Sell asker quoter buyer seller = (buyer ≡ quoter) × (seller ≡ asker)
 
--- a trade that an acceptance may make now: on the caller's own request and a live quote for it, at least both minimums, at
+-- whatever calls follow, a request that has ended is not open again, and a quote that has ended is not live again
+pub record Rest (d : Day) (later : List Call) : Type 0 where
+  pub requests : (n : ℕ) → n ≤ length (d .requests) → is-open (request-of d n .life) ≡ false → is-open (request-of (after d later) n .life) ≡ false
+  pub quotes : (q : ℕ) → q ≤ length (d .quotes) → quote-of d q .live ≡ false → quote-of (after d later) q .live ≡ false
+
+abbrev pub Ended-rests : Type 0
+Ended-rests = (d : Day) (later : List Call) → Rest d later
+
+-- a trade that an acceptance may make now: on the caller's own open request and a live quote for it, at least both minimums, at
 -- what the quote's leg comes to now, within what the limit comes to now
 pub record Good (d : Day) (a : Acceptance) (t : Trade) : Type 0 where
   pub on : t .request ≡ a .request
   pub own : request-of d (a .request) .requestor ≡ a .user
+  pub open-then : is-open (request-of d (a .request) .life) ≡ true
   pub live : quote-of d (t .quote) .live ≡ true
   pub quoted : quote-of d (t .quote) .request ≡ a .request
   pub least : request-of d (a .request) .minimum ≤ t .quantity

@@ -3,7 +3,7 @@ ghost use Rattle.venue.specs.Amounts.{Amounts};
 ghost use Rattle.venue.specs.Debts.{Debts, Sample};
 ghost use Rattle.venue.specs.Laws.{Fills-add-up, Fills-by-turns, Granted, Refused-leaves, Sorted-quotes, Told-causes};
 ghost use Rattle.venue.specs.Numbers.{Numbers-count-up, Trades-have-room};
-ghost use Rattle.venue.specs.Quantities.{Entries-stay, Offers-stay, Quantities-add-up, Sample as Quantities-sample, Trades-are-good};
+ghost use Rattle.venue.specs.Quantities.{Ended-rests, Entries-stay, Offers-stay, Quantities-add-up, Sample as Quantities-sample, Trades-are-good};
 
 /// A refused call leaves the day; a refusal has its cause and none has a smaller number; without a cause there is none.
 pub fn refusals_are_told() -> u8
@@ -37,12 +37,13 @@ pub fn numbers_count_up() -> u8
     0
 }
 
-/// What is open and what was traded make up what was entered, at every point of every run; what was entered stays; every
-/// trade was a good one when it was made; and a sample of it.
+/// What is open and what was traded make up what was entered, at every point of every run; what was entered stays; what has
+/// ended rests; every trade was a good one when it was made; and a sample of it.
 pub fn quantities_add_up() -> u8
     ensures sums { λ _. ⌜ Quantities-add-up ⌝ }
     ensures entries { λ _. ⌜ Entries-stay ⌝ }
     ensures offers { λ _. ⌜ Offers-stay ⌝ }
+    ensures rests { λ _. ⌜ Ended-rests ⌝ }
     ensures trades { λ _. ⌜ Trades-are-good ⌝ }
     ensures sample { λ _. ⌜ Quantities-sample ⌝ }
 {
