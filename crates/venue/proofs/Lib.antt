@@ -3,6 +3,7 @@ mod Dealing
 mod Ending
 mod Filling
 mod Owing
+mod Premises
 mod Replies
 mod Resting
 mod Rooming

@@ -8,3 +8,4 @@ pub mod Numbers
 pub mod Pages
 pub mod Quantities
 pub mod Trading
+pub mod TwoDays

@@ -3,6 +3,7 @@ ghost use Rattle.venue.specs.Amounts.{Amounts};
 ghost use Rattle.venue.specs.Debts.{Debts, Sample};
 ghost use Rattle.venue.specs.Laws.{Fills-add-up, Fills-by-turns, Granted, Refused-leaves, Sorted-quotes, Told-causes};
 ghost use Rattle.venue.specs.Numbers.{Numbers-count-up, Trades-have-room};
+ghost use Rattle.venue.specs.TwoDays.{Sample as Two-days-sample};
 ghost use Rattle.venue.specs.Quantities.{Ended-rests, Entries-stay, Offers-stay, Quantities-add-up, Sample as Quantities-sample, Trades-are-good};
 
 /// A refused call leaves the day; a refusal has its cause and none has a smaller number; without a cause there is none.
@@ -54,6 +55,13 @@ pub fn quantities_add_up() -> u8
 pub fn debts_balance() -> u8
     ensures law { λ _. ⌜ Debts ⌝ }
     ensures sample { λ _. ⌜ Sample ⌝ }
+{
+    0
+}
+
+/// The premises of the law of two days can be met.
+pub fn two_days_differ() -> u8
+    ensures { λ _. ⌜ Two-days-sample ⌝ }
 {
     0
 }
