@@ -3,8 +3,8 @@ ghost use Rattle.venue.specs.Amounts.{Amounts};
 ghost use Rattle.venue.specs.Debts.{Debts, Sample};
 ghost use Rattle.venue.specs.Laws.{Fills-add-up, Fills-by-turns, Granted, Refused-leaves, Sorted-quotes, Told-causes};
 ghost use Rattle.venue.specs.Numbers.{Numbers-count-up, Trades-have-room};
-ghost use Rattle.venue.specs.TwoDays.{Sample as Two-days-sample};
 ghost use Rattle.venue.specs.Quantities.{Ended-rests, Entries-stay, Offers-stay, Quantities-add-up, Sample as Quantities-sample, Trades-are-good};
+ghost use Rattle.venue.specs.TwoDays.{Sample as Two-days-sample};
 
 /// A refused call leaves the day; a refusal has its cause and none has a smaller number; without a cause there is none.
 pub fn refusals_are_told() -> u8
