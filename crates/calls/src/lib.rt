@@ -1,4 +1,6 @@
 // The call that a record of each kind makes.
+#![tactic(auto)]
+
 ghost use Rattle.std.specs.Prelude.{◌≡◌, ◌<◌};
 ghost use Rattle.venue.specs.Days.{bit};
 ghost use Rattle.calls.specs.Made.{acceptance_of, entry_of, new_symbol_of, new_user_of, offering_of, posting_of, price_question_of, quotes_of, where_stands};

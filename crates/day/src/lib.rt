@@ -1,4 +1,6 @@
 // The three forms of a day over any price source: being set up, trading, and closed. Each moves into the next.
+#![tactic(auto)]
+
 pub mod closed;
 pub mod closing;
 pub mod dealing;

@@ -1,4 +1,6 @@
 // Plays a day from a file of records, or from standard input, and prints a line for each.
+#![tactic(auto)]
+
 use input::read_input;
 use std::io::Write;
 use transcript::texts::transcribe;

@@ -1,4 +1,6 @@
 // The input of a program: the file that its argument names, or else standard input.
+#![tactic(auto)]
+
 ghost use Rattle.std.specs.Prelude.{◌≤◌, IfOk, vec_len};
 
 use anyhow::anyhow;

@@ -3,7 +3,7 @@ use Rattle.std.proofs.Common.{◌≡◌, ℕ, zero, suc, ◌+◌, ◌-◌, ◌<�
 use Rattle.std.specs.List.{flat_map}
 use Rattle.std.proofs.lemmas.List.Elements.{filter-append}
 use Rattle.std.proofs.lemmas.List.{flat_map_more, length-append, take_more, take_all}
-use Rattle.std.proofs.lemmas.Bool.{cond-true, cond-false, lt-ltb, le_ltb}
+use Rattle.std.proofs.lemmas.Bool.{cond-true, cond-false, lt-ltb, le-ltb}
 use Rattle.venue.specs.Pages.{numbers}
 use Rattle.pages.specs.Sections.{and_then, if_shown, lines_of, row_line}
 
@@ -46,7 +46,7 @@ lines_same f g (suc n) h =
 -- the lines of a section, and behind them those of another
 module _ (f : ℕ → List ℕ) (m : ℕ) (g : ℕ → List ℕ) where
   in_first : (k : ℕ) → k ≤ m → and_then f m g k ≡ f k
-  in_first k h = cond-false _ _ _ (le_ltb m k h)
+  in_first k h = cond-false _ _ _ (le-ltb m k h)
 
   in_second : (k : ℕ) → and_then f m g (suc (m + k)) ≡ g (suc k)
   in_second k =

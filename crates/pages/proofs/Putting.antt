@@ -1,7 +1,7 @@
 -- Bytes put into a buffer one part after another, and the page that stands there then. Assumes nothing.
 use Rattle.std.proofs.Common.{◌≡◌, ℕ, ◌+◌, ◌<◌, ◌≤◌, false, ◌||◌, ltb, List, ◌++◌, length, take, drop, Ok, Err, sym, refl, ap, ◌∙◌, arith}
 use Rattle.std.proofs.lemmas.List.{length-append, take_at}
-use Rattle.std.proofs.lemmas.Bool.{cond-true, cond-false, lt-ltb, le_ltb}
+use Rattle.std.proofs.lemmas.Bool.{cond-true, cond-false, lt-ltb, le-ltb}
 use Rattle.records.specs.declared.causes.Cause.TheVariants.{BufferShort}
 use Rattle.records.specs.declared.parts.Record.{Record}
 use Rattle.records.specs.Layout.{kind_of}
@@ -32,11 +32,11 @@ stands page out now n put size h =
     let whole : now ≡ page ++ drop n out = put ∙ over_start out page h ∙ ap (λ (k : ℕ). page ++ drop k out) (sym size) in
     let long = ap length whole ∙ length-append page (drop n out) in
     record {
-      answers = ap Ok size ∙ sym (cond-false _ _ _ (le_ltb _ _ h));
+      answers = ap Ok size ∙ sym (cond-false _ _ _ (le-ltb _ _ h));
       buffer = whole;
       front = (omega arith, ap (take n) whole ∙ take_at page (drop n out) n (sym size));
     }
 
 -- a record of a known kind is laid where there is room
 pub lays : (k : ℕ) (r : Record) (room at : ℕ) → no_kind (kind_of k) ≡ false → at + length (encode k r) ≤ room → no_laying k r room at ≡ false
-lays k r room at known h = ap (λ b. b || ltb room (at + length (encode k r))) known ∙ le_ltb room (at + length (encode k r)) h
+lays k r room at known h = ap (λ b. b || ltb room (at + length (encode k r))) known ∙ le-ltb room (at + length (encode k r)) h

@@ -1,4 +1,6 @@
 // What a view and a book question write into a lent buffer. Their functions ask that the tables are sound.
+#![tactic(auto)]
+
 pub mod book;
 mod judging;
 mod lines;

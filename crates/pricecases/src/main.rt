@@ -1,4 +1,6 @@
 // Prices and readings at the edges, a line for each.
+#![tactic(auto)]
+
 use prices::pricing::price_at;
 use prices::rows::{Leg, Pair, Ticks};
 use prices::sources::{Aged, Crossed, Sheet, Source, post_and_read, stack};

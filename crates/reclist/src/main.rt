@@ -1,4 +1,6 @@
 // Lists the records of a file, or of standard input: a line for each.
+#![tactic(auto)]
+
 use input::read_input;
 use listing::texts::list;
 use std::io::Write;

@@ -1,5 +1,5 @@
 -- What was written is read, and what was read is written. Assumes nothing.
-use Rattle.std.proofs.Common.{◌≡◌, ℕ, ◌+◌, ◌-◌, ◌*◌, ◌/◌, ◌%◌, ◌<◌, ◌≤◌, Bool, true, false, cond, ◌&&◌, ◌||◌, ltb, List, [], ◌∷◌, ◌++◌, length, get_or, take, drop, Some, None, Ok, Err, Option, Result, sym, refl, ap, ◌∙◌, subst, arith, length-append, length-drop, take-add, ltb-false, le_ltb}
+use Rattle.std.proofs.Common.{◌≡◌, ℕ, ◌+◌, ◌-◌, ◌*◌, ◌/◌, ◌%◌, ◌<◌, ◌≤◌, Bool, true, false, cond, ◌&&◌, ◌||◌, ltb, List, [], ◌∷◌, ◌++◌, length, get_or, take, drop, Some, None, Ok, Err, Option, Result, sym, refl, ap, ◌∙◌, subst, arith, length-append, length-drop, take-add, ltb-false, le-ltb}
 use Rattle.std.specs.List.{flat_map, AllByRecursion as All}
 use Rattle.std.proofs.lemmas.List.{get_or-drop}
 use Rattle.std.proofs.lemmas.Bool.{cond-true, cond-false, or_parts, or_from, and_right, lt-ltb}
@@ -124,7 +124,7 @@ module _ (k : ℕ) (r : Record) (tail : List ℕ) (typed : Typed r) (known : no_
       grants (tests s) (k, length_in s, record_in s) (
         and_right (ltb 0 (length s)) (no_kind (kind_of k)) known,
         (
-          le_ltb (length s) (length_in s) long_back,
+          le-ltb (length s) (length_in s) long_back,
           (
             ap (foreign (slots_of (kind_of k))) map_back ∙ own,
             (
@@ -215,7 +215,7 @@ module _ (t : List ℕ) (bytes : Bytes t) (fine : All (λ c. c.1 ≡ false) (tes
             ap (absent_of (kind_in t)) map_is ∙ fine.1.1.1.0,
             (
               ap (wrong r₀) fields_are ∙ fine.1.1.1.1.0,
-              (le_ltb room (to + length_of k₀ r₀) (omega arith), tt),
+              (le-ltb room (to + length_of k₀ r₀) (omega arith), tt),
             ),
           ),
         ),

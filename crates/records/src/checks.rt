@@ -1,6 +1,6 @@
 // What is asked of a record before its fields are taken: which of them stand, and with which letters.
 ghost use Rattle.std.specs.Prelude.{◌≡◌, ◌*◌, ◌/◌, ◌≤◌, not, ◌&&◌, length};
-ghost use Rattle.records.specs.Bytes.{width as width_of_lem, odd, standing, size, foreign as is_foreign, missing as is_missing, incomplete as is_incomplete, absent as is_absent, number_fits, one_of, letters, lrgs, fits as is_fit, wrong as is_wrong, taken as TakenOf};
+ghost use Rattle.records.specs.Bytes.{width as width_of_lem, odd, standing, size, foreign as is_foreign, missing as is_missing, incomplete as is_incomplete, absent as is_absent, number_fits, one_of, letters, lrgs, fits as is_fit, wrong as is_wrong, taken as taken_of};
 ghost use Rattle.records.specs.Fields.{value};
 ghost use Rattle.records.specs.Layout.{field_of, may_lack, shape};
 
@@ -24,7 +24,7 @@ impl Shape {
 
 /// How many bytes the field takes, given the map from its bit up.
 pub(crate) fn taken(slot: Slot, left: u16) -> usize
-    ensures value { result ≡ TakenOf slot left }
+    ensures value { result ≡ taken_of slot left }
     ensures bound { result ≤ 8 }
 {
     if left % 2 == 1 {
@@ -147,14 +147,14 @@ pub(crate) fn fits(shape: Shape, value: Value) -> bool
 
 /// Whether the field stands and holds what it may not, given the map from its bit up.
 fn misfits(slot: Slot, left: u16, fields: &Record) -> bool
-    ensures { result ≡ (odd left && not (is_fit (shape (field_of slot)) (value (field_of slot) fields.entry.now))) }
+    ensures { result ≡ (odd left && not (is_fit (shape (field_of slot)) (value (field_of slot) fields.now))) }
 {
     left % 2 == 1 && !fits(slot.field().shape(), fields.value(slot.field()))
 }
 
 /// Whether a standing field holds what it may not.
 pub(crate) fn wrong(slots: &[Slot], map: u16, fields: &Record) -> bool
-    ensures { result ≡ is_wrong fields.entry.now (standing slots.now map) }
+    ensures { result ≡ is_wrong fields.now (standing slots.now map) }
 {
     let mut left = map;
     for slot in slots {

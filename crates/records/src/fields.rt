@@ -82,7 +82,7 @@ fn price(bytes: &[u8]) -> Price
 impl Record {
     /// What the field holds.
     pub fn value(&self, field: Field) -> Value
-        ensures { result ≡ value_of_lem field self.entry.now }
+        ensures { result ≡ value_of_lem field self.now }
     {
         match field {
             Field::User => Value::Number(u64::from(self.user)),
@@ -132,7 +132,7 @@ impl Record {
     /// Sets the field to what the bytes begin with.
     pub(crate) fn set(&mut self, field: Field, bytes: &[u8])
         requires { width (shape field) ≤ length bytes.now }
-        ensures { self.exit.now ≡ kept (same field) (decoded bytes.now) self.entry.now }
+        ensures { self.new ≡ kept (same field) (decoded bytes.now) self.old }
     {
         match field {
             Field::User => self.user = byte(bytes),

@@ -1,4 +1,6 @@
 // Records as bytes: why one is refused, what its fields are, and how it is read and written.
+#![tactic(auto)]
+
 pub mod causes;
 pub mod checks;
 pub mod fields;

@@ -1,6 +1,6 @@
 // Reading a record from bytes.
 ghost use Rattle.std.specs.Prelude.{◌≡◌, ◌+◌, ◌-◌, ◌<◌, ◌≤◌, length, drop, IfOk, if◌then◌else◌, Ok, Err};
-ghost use Rattle.records.specs.Bytes.{odd, standing, size, taken as TakenOf};
+ghost use Rattle.records.specs.Bytes.{odd, standing, size, taken as taken_of};
 ghost use Rattle.records.specs.Fields.{blank as blank_of, decoded, kept, same};
 ghost use Rattle.records.specs.Layout.{field_of};
 ghost use Rattle.records.specs.Reading.{fill as fill_of, measure as measure_of, parse, parse_fields, read_answer, read_record, skip_answer};
@@ -69,9 +69,9 @@ impl Record {
 
 /// Takes the field, if its bit stands, and says where the next begins.
 fn take_field(slot: Slot, left: u16, bytes: &[u8], at: usize, fields: &mut Record) -> usize
-    requires { at + TakenOf slot left ≤ length bytes.now }
-    ensures next { result ≡ at + TakenOf slot left }
-    ensures fields { fields.exit.now ≡ (if odd left then kept (same (field_of slot)) (decoded (drop at bytes.now)) fields.entry.now else fields.entry.now) }
+    requires { at + taken_of slot left ≤ length bytes.now }
+    ensures next { result ≡ at + taken_of slot left }
+    ensures fields { fields.new ≡ (if odd left then kept (same (field_of slot)) (decoded (drop at bytes.now)) fields.old else fields.old) }
 {
     if left % 2 != 1 {
         return at;
@@ -187,7 +187,7 @@ fn tail(bytes: &[u8], at: usize) -> &[u8]
 
 fn read_into(bytes: &[u8], at: usize, out: &mut Record) -> Result<(char, usize), Refusal>
     ensures answer { result ≡ read_answer bytes.now at }
-    ensures out { out.exit.now ≡ read_record bytes.now at out.entry.now }
+    ensures out { out.new ≡ read_record bytes.now at out.old }
     ensures within { IfOk result (λ q. (at + 3 ≤ q.1) × (q.1 ≤ length bytes.now)) }
 {
     match read_front(tail(bytes, at)) {
@@ -203,7 +203,7 @@ fn read_into(bytes: &[u8], at: usize, out: &mut Record) -> Result<(char, usize),
 /// record that is lent, which a refusal leaves as it was.
 pub fn read(bytes: &[u8], at: usize, out: &mut Record) -> Result<(char, usize), Refusal>
     ensures answer { result ≡ read_answer bytes.now at }
-    ensures out { out.exit.now ≡ read_record bytes.now at out.entry.now }
+    ensures out { out.new ≡ read_record bytes.now at out.old }
     ensures within { IfOk result (λ q. (at + 3 ≤ q.1) × (q.1 ≤ length bytes.now)) }
     ensures back { ReadWrite }
 {

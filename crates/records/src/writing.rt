@@ -1,7 +1,7 @@
 // Writing a record as bytes into a lent buffer.
 ghost use Rattle.std.specs.Prelude.{◌≡◌, ◌+◌, ◌%◌, ◌≤◌, false, [], length, IfOk, if◌then◌else◌, Ok, Err, nat_lt};
 ghost use Rattle.std.specs.List.{flat_map};
-ghost use Rattle.records.specs.Bytes.{field_bytes, odd, size, standing, taken as TakenOf, value_bytes};
+ghost use Rattle.records.specs.Bytes.{field_bytes, odd, size, standing, taken as taken_of, value_bytes};
 ghost use Rattle.records.specs.Layout.{field_of, kind_of};
 ghost use Rattle.records.specs.Reading.{no_kind};
 ghost use Rattle.records.specs.Trips.{WriteRead};
@@ -50,8 +50,8 @@ fn put_value(out: &mut [u8], at: usize, shape: Shape, value: Value) -> usize
 /// Writes the field, if its bit stands in the map from there up.
 fn put_field(out: &mut [u8], at: usize, slot: Slot, left: u16, fields: &Record) -> usize
     requires { at + length (if odd left then field_bytes fields.now (field_of slot) else []) ≤ length out.old }
-    ensures after { out.new ≡ over out.old at (if odd left then field_bytes fields.entry.now (field_of slot) else []) }
-    ensures next { result ≡ at + length (if odd left then field_bytes fields.entry.now (field_of slot) else []) }
+    ensures after { out.new ≡ over out.old at (if odd left then field_bytes fields.now (field_of slot) else []) }
+    ensures next { result ≡ at + length (if odd left then field_bytes fields.now (field_of slot) else []) }
 {
     if left % 2 != 1 {
         return at;
@@ -62,7 +62,7 @@ fn put_field(out: &mut [u8], at: usize, slot: Slot, left: u16, fields: &Record) 
 /// Writes all the fields whose bits stand.
 fn put_fields(out: &mut [u8], start: usize, slots: &[Slot], fields: &Record)
     requires { start + length (flat_map (field_bytes fields.now) (standing slots.now fields.now.map)) ≤ length out.old }
-    ensures { out.new ≡ over out.old start (flat_map (field_bytes fields.entry.now) (standing slots.now fields.entry.now.map)) }
+    ensures { out.new ≡ over out.old start (flat_map (field_bytes fields.now) (standing slots.now fields.now.map)) }
 {
     let mut at = start;
     let mut left = fields.map;
@@ -81,7 +81,7 @@ fn short(room: usize, at: usize, len: usize) -> bool
 
 /// Where the next record would go, or why this one is refused.
 fn judge(letter: char, fields: &Record, room: usize, at: usize) -> Result<usize, Cause>
-    ensures value { result ≡ judge_write letter fields.entry.now room at }
+    ensures value { result ≡ judge_write letter fields.now room at }
     ensures within { IfOk result (λ next. (at + 3 ≤ next) × (next ≤ room)) }
 {
     let Some(kind) = Kind::of(letter) else {
@@ -107,8 +107,8 @@ fn judge(letter: char, fields: &Record, room: usize, at: usize) -> Result<usize,
 
 /// What the types say of a record: its name has eight bytes, and its flag four.
 fn sized(fields: &Record)
-    ensures name { length fields.entry.now.name ≡ 8 }
-    ensures flag { length fields.entry.now.flag ≡ 4 }
+    ensures name { length fields.now.name ≡ 8 }
+    ensures flag { length fields.now.flag ≡ 4 }
 {
     let _name: &[u8] = &fields.name;
     let _flag: &[u8] = &fields.flag;
@@ -118,7 +118,7 @@ fn sized(fields: &Record)
 fn put_record(out: &mut [u8], at: usize, letter: char, fields: &Record)
     requires kind { no_kind (kind_of letter) ≡ false }
     requires room { at + length_of letter fields.now ≤ length out.old }
-    ensures { out.new ≡ over out.old at (encode letter fields.entry.now) }
+    ensures { out.new ≡ over out.old at (encode letter fields.now) }
 {
     let Some(kind) = Kind::of(letter) else {
         return;
@@ -131,8 +131,8 @@ fn put_record(out: &mut [u8], at: usize, letter: char, fields: &Record)
 
 /// How many bytes a record of the kind with this letter takes.
 pub fn encoded_len(kind: char, fields: &Record) -> usize
-    ensures value { result ≡ length_of kind fields.entry.now }
-    ensures bytes { result ≡ length (encode kind fields.entry.now) }
+    ensures value { result ≡ length_of kind fields.now }
+    ensures bytes { result ≡ length (encode kind fields.now) }
     ensures bound { result ≤ 131 }
 {
     sized(fields);
@@ -145,8 +145,8 @@ pub fn encoded_len(kind: char, fields: &Record) -> usize
 /// Lays the bytes of a record of the kind with this letter into the buffer at a place, whatever its fields hold, and says
 /// where the next record goes. Where the letter is of no kind or there is no room, the buffer is left as it was.
 pub fn lay(kind: char, fields: &Record, out: &mut [u8], at: usize) -> Option<usize>
-    ensures answer { result ≡ laid_answer kind fields.entry.now (length out.old) at }
-    ensures out { out.new ≡ laid_buffer kind fields.entry.now out.old at }
+    ensures answer { result ≡ laid_answer kind fields.now (length out.old) at }
+    ensures out { out.new ≡ laid_buffer kind fields.now out.old at }
 {
     Kind::of(kind)?;
     let len = encoded_len(kind, fields);
@@ -168,8 +168,8 @@ fn refused(cause: Cause, at: usize) -> Refusal
 /// Writes a record of the kind with this letter at a place in the buffer, and says where the next record goes. A refusal
 /// leaves the buffer as it was.
 pub fn write(kind: char, fields: &Record, out: &mut [u8], at: usize) -> Result<usize, Refusal>
-    ensures answer { result ≡ write_answer kind fields.entry.now (length out.old) at }
-    ensures out { out.new ≡ write_buffer kind fields.entry.now out.old at }
+    ensures answer { result ≡ write_answer kind fields.now (length out.old) at }
+    ensures out { out.new ≡ write_buffer kind fields.now out.old at }
     ensures within { IfOk result (λ next. (at + 3 ≤ next) × (next ≤ length out.old)) }
     ensures back { WriteRead }
 {

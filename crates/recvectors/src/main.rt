@@ -6,6 +6,8 @@
 //     write KIND MAP SIZE AT HEX..      reads the record, and writes it as KIND with the bit map MAP into SIZE bytes at AT
 //
 // Each line is echoed, and its outcome follows.
+#![tactic(auto)]
+
 use anyhow::anyhow;
 use input::read_input;
 use listing::texts::list;

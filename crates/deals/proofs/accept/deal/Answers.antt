@@ -12,10 +12,10 @@ settle-requires c =
     let a = c.args.call.now in
     let f = fills (bare_day t) a.request c.args.line.now in
     let s = c.requires.0 in
-    let told = c.in-ok-made.ensures in
+    let told = c.in_ok-made.ensures in
     let left = told.left in
-    let v = floored t a c.args.double c.unwrap-or.result f.trades _ c.unwrap-or.ensures told.verdict in
-    let room = made_room (terms_of t a c.args.double) f.trades c.in-ok-made.made v (ap (λ (u : Filled). u.trades) left.0) left.2 in
+    let v = floored t a c.args.double c.unwrap_or.result f.trades _ c.unwrap_or.ensures told.verdict in
+    let room = made_room (terms_of t a c.args.double) f.trades c.in_ok-made.made v (ap (λ (u : Filled). u.trades) left.0) left.2 in
     (((s.0.0, told.size), s.1), (room.0, left.2))
 
 pub returns : goal.returns
@@ -23,10 +23,10 @@ returns c =
     let t = c.args.t.now in
     let a = c.args.call.now in
     let f = fills (bare_day t) a.request c.args.line.now in
-    let told = c.in-ok-made.ensures in
+    let told = c.in_ok-made.ensures in
     let left = told.left in
-    let m = c.in-ok-made.made in
-    let v = floored t a c.args.double c.unwrap-or.result f.trades _ c.unwrap-or.ensures told.verdict in
+    let m = c.in_ok-made.made in
+    let v = floored t a c.args.double c.unwrap_or.result f.trades _ c.unwrap_or.ensures told.verdict in
     let room = made_room (terms_of t a c.args.double) f.trades m v (ap (λ (u : Filled). u.trades) left.0) left.2 in
     record {
       verdict = v;

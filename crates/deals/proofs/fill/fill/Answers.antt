@@ -19,14 +19,14 @@ loop-row-preserved c =
     let opens = renumbered_again (take a.terms.requests a.quantities.now) _ _ a.terms.request _ _ c.loop-row.invariant.1 c.turn.ensures.opens in
     (filled, opens, omega arith, c.turn.ensures.size)
 
-pub returns-in-err-judge-fills : goal.returns-in-err-judge-fills
-returns-in-err-judge-fills c =
+pub returns-in_err-judge_fills : goal.returns-in_err-judge_fills
+returns-in_err-judge_fills c =
     let a = c.args in
     let m = c.loop-row.made in
     let all = turns_all a.terms a.requests.now a.quotes.now a.quantities.now a.line.now c.loop-row.row-index _ c.loop-row-test.false c.loop-row.invariant.0 in
     let whole : m.len - 0 ≡ m.len = omega arith in
-    let told = c.in-err-judge-fills.ensures ∙ ap (λ k. unless (fill_causes a.terms (take k m.trades)) (tt {0})) whole in
-    let p = err_from_is_err_and c.from-residual.result c.from-residual.ensures.1 in
+    let told = c.in_err-judge_fills.ensures ∙ ap (λ k. unless (fill_causes a.terms (take k m.trades)) (tt {0})) whole in
+    let p = err_from_is_err_and c.from_residual.result c.from_residual.ensures.1 in
     rw
     (p.1, p.2)
     (record {

@@ -5,7 +5,7 @@ use Rattle.deals.proofs.settle.end_quotes.Goals as goal
 pub loop-i-preserved : goal.loop-i-preserved
 loop-i-preserved c =
     let a = c.args in
-    settled_more a.n a.over a.quotes.now c.loop-i.quotes a.remains.now c.loop-i.i a.count _ c.quote-after.result (omega arith) (omega arith) (omega arith) (omega arith) c.loop-i.invariant.1 c.quote-after.ensures c.loop-i.invariant.0
+    settled_more a.n a.over a.quotes.now c.loop-i.quotes a.remains.now c.loop-i.i a.count _ c.quote_after.result (omega arith) (omega arith) (omega arith) (omega arith) c.loop-i.invariant.1 c.quote_after.ensures c.loop-i.invariant.0
 
 pub returns : goal.returns
 returns c =

@@ -11,7 +11,7 @@ returns c =
     record {
       day =
           same_tables (bare_day t)
-          (take_more_set t.requests n c.request-made-row.result (omega arith) ∙ ap (λ r. take n t.requests ++ r ∷ []) c.request-made-row.ensures)
+          (take_more_set t.requests n c.request_made-row.result (omega arith) ∙ ap (λ r. take n t.requests ++ r ∷ []) c.request_made-row.ensures)
           (take_more_set t.quantities n c.args.entry.now.quantity (omega arith))
           refl
           (ap (take t.quote_count) (drop_set_lt 128 t.quantities n c.args.entry.now.quantity (omega arith)))

@@ -16,7 +16,7 @@ returns c =
     record {
       day =
           same_tables (bare_day t)
-          (ap (take t.request_count) c.end-request-numbered.ensures ∙ take_edited (ended_as Cancelled) no_request t.request_count t.requests n (omega arith))
+          (ap (take t.request_count) c.end_request_numbered.ensures ∙ take_edited (ended_as Cancelled) no_request t.request_count t.requests n (omega arith))
           refl
           (ap (take t.quote_count) c.sweep.ensures ∙ take-map (λ (q : Quote). ended_if (eqb q.request n) q) t.quote_count t.quotes)
           refl refl;

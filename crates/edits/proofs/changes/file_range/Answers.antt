@@ -6,7 +6,7 @@ pub loop-n-preserved : goal.loop-n-preserved
 loop-n-preserved c =
     let n = c.loop-n.n in
     let more : c.args.last + 1 - n ≡ suc (c.args.last + 1 - (n + 1)) = omega arith in
-    ap (λ ts. filed ts (n + 1) (c.args.last + 1 - (n + 1))) c.file-trade-numbered.ensures
+    ap (λ ts. filed ts (n + 1) (c.args.last + 1 - (n + 1))) c.file_trade_numbered.ensures
     ∙ sym (ap (filed c.loop-n.trades n) more)
     ∙ c.loop-n.invariant
 

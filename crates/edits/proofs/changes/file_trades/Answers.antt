@@ -12,6 +12,6 @@ returns c =
     record {
       day =
           same_tables (bare_day t) refl refl refl refl
-          (ap (take n) c.file-range.ensures ∙ take_filed n t.trades r.first (r.last + 1 - r.first) (omega arith));
+          (ap (take n) c.file_range.ensures ∙ take_filed n t.trades r.first (r.last + 1 - r.first) (omega arith));
       sound = search rules;
     }

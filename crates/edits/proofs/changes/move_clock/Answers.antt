@@ -13,7 +13,7 @@ returns c =
     let m = t.quote_count in
     let time = c.args.time in
     let requests = ap (take n) c.sweep.ensures ∙ take-map (expired_row time) n t.requests in
-    let quotes = ap (take m) c.expire-quotes.ensures ∙ take-map (expired_quote time (take n c.sweep.new.rows)) m t.quotes in
+    let quotes = ap (take m) c.expire_quotes.ensures ∙ take-map (expired_quote time (take n c.sweep.new.rows)) m t.quotes in
     record {
       day =
           ap (λ d. with_clock d time)

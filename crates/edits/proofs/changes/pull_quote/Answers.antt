@@ -13,7 +13,7 @@ returns c =
     record {
       day =
           same_tables (bare_day t) refl refl
-          (ap (take n) c.end-quote-numbered.ensures ∙ take_edited ended no_quote n t.quotes c.args.q (omega arith))
+          (ap (take n) c.end_quote_numbered.ensures ∙ take_edited ended no_quote n t.quotes c.args.q (omega arith))
           refl refl;
       sound = search rules;
     }

@@ -9,4 +9,4 @@ returns c =
     let rs = c.args.requests.now in
     let n = c.args.n in
     let row : ◌≡◌ {A = Request} c.numbered.result (numbered no_request (take (length rs) rs) n) = c.numbered.ensures in
-    c.is-open.ensures ∙ ap (λ (r : Request). is_open r.life) (row ∙ ap (λ l. numbered no_request l n) (take_all (length rs) rs (omega arith)))
+    c.is_open.ensures ∙ ap (λ (r : Request). is_open r.life) (row ∙ ap (λ l. numbered no_request l n) (take_all (length rs) rs (omega arith)))

@@ -8,13 +8,13 @@ use Rattle.judges.proofs.facts.are_recipients_wrong.Goals as goal
 pub returns-then-entry-eq0 : goal.returns-then-entry-eq0
 returns-then-entry-eq0 c = sym (or_left _ _ (eq-eqb _ _ c.if-entry-eq0.true))
 
-pub returns-then-has-stranger : goal.returns-then-has-stranger
-returns-then-has-stranger c = sym (or_right _ _ (or_left _ _ (sym c.has-stranger.ensures ∙ c.if-has-stranger.true)))
+pub returns-then-has_stranger : goal.returns-then-has_stranger
+returns-then-has_stranger c = sym (or_right _ _ (or_left _ _ (sym c.has_stranger.ensures ∙ c.if-has_stranger.true)))
 
 pub returns : goal.returns
 returns c =
     let e = c.args.entry.now in
     let d = bare_day c.args.t.now in
-    c.has-bit.ensures
+    c.has_bit.ensures
     ∙ sym (ap (λ b. b || (has_stranger d e.recipients 64 || bit e.recipients e.user)) (ne_eqb _ _ c.if-entry-eq0.false)
-    ∙ ap (λ b. b || bit e.recipients e.user) (sym c.has-stranger.ensures ∙ c.if-has-stranger.false))
+    ∙ ap (λ b. b || bit e.recipients e.user) (sym c.has_stranger.ensures ∙ c.if-has_stranger.false))

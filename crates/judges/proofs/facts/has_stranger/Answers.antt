@@ -4,13 +4,13 @@ use Rattle.tables.specs.Tabled.{bare_day}
 use Rattle.judges.proofs.Strangers.{stranger_at, none_yet}
 use Rattle.judges.proofs.facts.has_stranger.Goals as goal
 
-pub returns-then-is-stranger : goal.returns-then-is-stranger
-returns-then-is-stranger c =
-    sym (stranger_at (bare_day c.args.t.now) c.args.set c.loop-user.user 64 c.loop-user-test.true (sym c.is-stranger.ensures ∙ c.if-is-stranger.true))
+pub returns-then-is_stranger : goal.returns-then-is_stranger
+returns-then-is_stranger c =
+    sym (stranger_at (bare_day c.args.t.now) c.args.set c.loop-user.user 64 c.loop-user-test.true (sym c.is_stranger.ensures ∙ c.if-is_stranger.true))
 
 pub loop-user-preserved : goal.loop-user-preserved
 loop-user-preserved c =
-    none_yet (bare_day c.args.t.now) c.args.set c.loop-user.user (sym c.is-stranger.ensures ∙ c.if-is-stranger.false) c.loop-user.invariant
+    none_yet (bare_day c.args.t.now) c.args.set c.loop-user.user (sym c.is_stranger.ensures ∙ c.if-is_stranger.false) c.loop-user.invariant
 
 pub returns : goal.returns
 returns c =

@@ -10,7 +10,7 @@ use Rattle.listing.proofs.lines.add_fields.Goals as goal
 pub loop-slot-preserved : goal.loop-slot-preserved
 loop-slot-preserved c =
     let more = joined_more (field_text c.args.fields.now) c.args.slots.now c.loop-slot.slot-index c.loop-slot.left c.loop-slot-test.true in
-    c.loop-slot.invariant ∙ one_more _ _ _ _ _ more c.in-ok-add-slot.ensures
+    c.loop-slot.invariant ∙ one_more _ _ _ _ _ more c.in_ok-add_slot.ensures
 
 pub returns : goal.returns
 returns c =

@@ -8,7 +8,7 @@ pub loop-byte-preserved : goal.loop-byte-preserved
 loop-byte-preserved c =
     let bytes = c.args.bytes.now in
     let i = c.loop-byte.byte-index in
-    let added = c.in-ok-add-sign.ensures in
+    let added = c.in_ok-add_sign.ensures in
     let one = flat_map_more sign (vec_items c.args.text.now) (take i bytes) (get_or bytes i 0) in
     let more = take_more bytes i 0 c.loop-byte-test.true in
     cc

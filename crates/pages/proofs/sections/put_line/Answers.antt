@@ -18,5 +18,5 @@ returns-in-Some c =
     let bytes = sym (ap line_bytes is) in
     record {
       after = c.lay.ensures.out ∙ cond-false _ _ _ goes ∙ ap (over c.args.out.now c.args.at) bytes;
-      next = c.unwrap-or.ensures ∙ ap (λ o. unwrap_or o c.args.at) (c.lay.ensures.answer ∙ cond-false _ _ _ goes) ∙ ap (λ bs. c.args.at + length bs) bytes;
+      next = c.unwrap_or.ensures ∙ ap (λ o. unwrap_or o c.args.at) (c.lay.ensures.answer ∙ cond-false _ _ _ goes) ∙ ap (λ bs. c.args.at + length bs) bytes;
     }

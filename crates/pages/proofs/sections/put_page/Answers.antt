@@ -11,4 +11,4 @@ returns-then-len-out g c =
 pub returns : goal.returns
 returns g c =
     let page = lines_of (g.X.Section.bytes c.args.page.now) (g.X.Section.size c.args.page.now) in
-    stands page c.args.out.now _ c.total-len.result c.put-lines.ensures c.total-len.ensures (omega arith)
+    stands page c.args.out.now _ c.total-len.result c.put_lines.ensures c.total-len.ensures (omega arith)

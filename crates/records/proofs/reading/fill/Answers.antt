@@ -6,8 +6,8 @@ use Rattle.records.proofs.Layers.{fill_more}
 use Rattle.records.proofs.Turns.{size_more}
 use Rattle.records.proofs.reading.fill.Goals as goal
 
-pub take-field-at-requires : goal.take-field-at-requires
-take-field-at-requires c =
+pub take_field-at-requires : goal.take_field-at-requires
+take_field-at-requires c =
     let more = size_more c.args.slots.now c.loop-slot.slot-index c.loop-slot.left c.loop-slot-test.true in
     omega arith
 

@@ -10,6 +10,6 @@ returns c =
     let bytes = c.args.bytes.now in
     let k = at + length bytes - at in
     record {
-      after = ap (put_mid at k out) c.copy-from-slice.ensures.after ∙ over_mid out bytes at k (omega arith) (omega arith);
+      after = ap (put_mid at k out) c.copy_from_slice.ensures.after ∙ over_mid out bytes at k (omega arith) (omega arith);
       value = omega arith;
     }

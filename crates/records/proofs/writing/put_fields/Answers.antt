@@ -7,8 +7,8 @@ use Rattle.records.proofs.Over.{over_append}
 use Rattle.records.proofs.Turns.{joined_more, slot_part, no_slot}
 use Rattle.records.proofs.writing.put_fields.Goals as goal
 
-pub put-field-at-requires : goal.put-field-at-requires
-put-field-at-requires c =
+pub put_field-at-requires : goal.put_field-at-requires
+put_field-at-requires c =
     let r = c.args.fields.now in
     let more = joined_more (field_bytes r) c.args.slots.now c.loop-slot.slot-index c.loop-slot.left c.loop-slot-test.true in
     let here = slot_part (field_bytes r) (get_or c.args.slots.now c.loop-slot.slot-index no_slot) c.loop-slot.left in
@@ -24,7 +24,7 @@ loop-slot-preserved c =
     let rest = flat_map (field_bytes r) (standing (drop (c.loop-slot.slot-index + 1) c.args.slots.now) (c.loop-slot.left / 2)) in
     let long = ap length more ∙ length-append here rest in
     let onto = over_append c.loop-slot.out c.loop-slot.at here rest in
-    (omega arith, c.loop-slot.invariant.1 ∙ ap (over c.loop-slot.out c.loop-slot.at) more ∙ onto ∙ ap (λ o. over o (c.loop-slot.at + length here) rest) (sym c.put-field-at.ensures.after) ∙ ap (λ p. over c.put-field-at.new.out p rest) (sym c.put-field-at.ensures.next))
+    (omega arith, c.loop-slot.invariant.1 ∙ ap (over c.loop-slot.out c.loop-slot.at) more ∙ onto ∙ ap (λ o. over o (c.loop-slot.at + length here) rest) (sym c.put_field-at.ensures.after) ∙ ap (λ p. over c.put_field-at.new.out p rest) (sym c.put_field-at.ensures.next))
 
 pub returns : goal.returns
 returns c =

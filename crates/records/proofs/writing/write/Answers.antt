@@ -3,8 +3,8 @@ use Rattle.records.proofs.Back.{write_read}
 use Rattle.records.proofs.Records.{write_granted}
 use Rattle.records.proofs.writing.write.Goals as goal
 
-pub put-record-requires : goal.put-record-requires
-put-record-requires c =
+pub put_record-requires : goal.put_record-requires
+put_record-requires c =
     let g = write_granted c.args.kind c.args.fields.now (length c.args.out.now) c.args.at c.in-Ok.next (sym c.in-Ok.ensures.value) in
     record { kind = g.kind; room = g.fits }
 

@@ -7,7 +7,7 @@ pub loop-byte-preserved : goal.loop-byte-preserved
 loop-byte-preserved c =
     let page = c.args.page.now in
     let i = c.loop-byte.byte-index in
-    let added = c.in-ok-add-byte.ensures in
+    let added = c.in_ok-add_byte.ensures in
     let one = flat_map_more byte_text (vec_items c.args.text.now) (take i page) (get_or page i 0) in
     let more = take_more page i 0 c.loop-byte-test.true in
     cc

@@ -14,6 +14,6 @@ returns c =
     let source = c.over-2.result in
     let rows_are : source.below.below.rows ≡ replicate 64 Never = cc in
     let limit_is : source.below.limit ≡ 60000 = cc in
-    let over-limit = subst (λ (n : ℕ). IfOk c.transcribe-over.result (λ v. vec_items v ≡ text 32768 (length s) s 0 1 (setting nothing_set source.below.below.rows (uncrossed (fresh n bare))))) limit_is c.transcribe-over.ensures in
-    let all = subst (λ (rs : List Row). IfOk c.transcribe-over.result (λ v. vec_items v ≡ text 32768 (length s) s 0 1 (setting nothing_set rs (uncrossed (fresh 60000 bare))))) rows_are over-limit in
+    let over-limit = subst (λ (n : ℕ). IfOk c.transcribe_over.result (λ v. vec_items v ≡ text 32768 (length s) s 0 1 (setting nothing_set source.below.below.rows (uncrossed (fresh n bare))))) limit_is c.transcribe_over.ensures in
+    let all = subst (λ (rs : List Row). IfOk c.transcribe_over.result (λ v. vec_items v ≡ text 32768 (length s) s 0 1 (setting nothing_set rs (uncrossed (fresh 60000 bare))))) rows_are over-limit in
     record { text = all; enough = enough }

@@ -13,7 +13,7 @@ pub returns : goal.returns
 returns g c =
     let s = c.args.self.source in
     record {
-      opened = ap (over_source (g.S.Source.rows s) (g.S.Source.screen s)) c.open-tables.ensures.day;
+      opened = ap (over_source (g.S.Source.rows s) (g.S.Source.screen s)) c.open_tables.ensures.day;
       source = refl;
       hidden = hidden;
       strangers = strangers_told_nothing;

@@ -5,12 +5,12 @@ use Rattle.day.specs.Told.{trading_day}
 use Rattle.day.proofs.Showing.{shows_page, shows_broken}
 use Rattle.day.proofs.forms.Trading.book.Goals as goal
 
-pub returns-in-err-book : goal.returns-in-err-book
-returns-in-err-book g c =
+pub returns-in_err-book : goal.returns-in_err-book
+returns-in_err-book g c =
     let d = trading_day g.S.Source.rows g.S.Source.screen c.args.self.now in
-    shows_broken d (book c.args.user c.args.request (length c.args.out.now)) (book_page d c.args.request) _ _ refl refl c.from-residual.result _ c.from-residual.ensures.1 c.in-err-book.ensures
+    shows_broken d (book c.args.user c.args.request (length c.args.out.now)) (book_page d c.args.request) _ _ refl refl c.from_residual.result _ c.from_residual.ensures.1 c.in_err-book.ensures
 
 pub returns : goal.returns
 returns g c =
     let d = trading_day g.S.Source.rows g.S.Source.screen c.args.self.now in
-    shows_page d (book c.args.user c.args.request (length c.args.out.now)) (book_page d c.args.request) _ _ refl refl _ c.in-ok-book.ensures
+    shows_page d (book c.args.user c.args.request (length c.args.out.now)) (book_page d c.args.request) _ _ refl refl _ c.in_ok-book.ensures

@@ -4,12 +4,12 @@ use Rattle.day.proofs.Rooms.{requests_long, room_for_request}
 use Rattle.day.proofs.Stepping.{over_source, when_granted}
 use Rattle.day.proofs.forms.Trading.enter.Goals as goal
 
-pub add-request-requires : goal.add-request-requires
-add-request-requires g c =
+pub add_request-requires : goal.add_request-requires
+add_request-requires g c =
     let s = c.args.self.now in
     record {
       sound = (s.sized, s.counted);
-      room = room_for_request s.tables (s.sized, s.counted) c.args.entry c.in-ok-judge-entry.ensures;
+      room = room_for_request s.tables (s.sized, s.counted) c.args.entry c.in_ok-judge_entry.ensures;
     }
 
 pub returns : goal.returns
@@ -17,6 +17,6 @@ returns g c =
     let s = c.args.self.now in
     let rs = g.S.Source.rows s.source in
     let sc = g.S.Source.screen s.source in
-    when_granted _ _ _ _ _ c.in-ok-judge-entry.ensures refl
-    (ap (over_source rs sc) c.add-request.ensures.day)
+    when_granted _ _ _ _ _ c.in_ok-judge_entry.ensures refl
+    (ap (over_source rs sc) c.add_request.ensures.day)
     (ap a_number (ap (λ n. n + 1) (sym (requests_long s.tables (s.sized, s.counted)))))

@@ -14,13 +14,13 @@ returns g c =
     let t = s.tables in
     let rs = g.S.Source.rows s.source in
     let sc = g.S.Source.screen s.source in
-    let place : c.unwrap-or-place.result ≡ unwrap_or (place_of (bare_day t) c.args.posting.name) 0 = c.unwrap-or-place.ensures ∙ ap (λ o. unwrap_or o 0) c.place-named.ensures in
+    let place : c.unwrap_or-place.result ≡ unwrap_or (place_of (bare_day t) c.args.posting.name) 0 = c.unwrap_or-place.ensures ∙ ap (λ o. unwrap_or o 0) c.place_named.ensures in
     let within = place_within t (s.sized, s.counted) c.args.posting.name in
     let posted = c.post.ensures.answer ∙ cond-true _ _ _ (lt-ltb _ _ (subst (λ (n : ℕ). n < 64) (sym place) within)) in
     let rows =
     c.post.ensures.rows
-    ∙ ap (λ p. post_rows rs p (row_of c.pair-posted.result t.clock)) place
-    ∙ ap (λ p. post_rows rs (unwrap_or (place_of (bare_day t) c.args.posting.name) 0) (row_of p t.clock)) c.pair-posted.ensures in
-    when_granted _ _ _ _ _ c.in-ok-judge-posting.ensures refl
+    ∙ ap (λ p. post_rows rs p (row_of c.pair_posted.result t.clock)) place
+    ∙ ap (λ p. post_rows rs (unwrap_or (place_of (bare_day t) c.args.posting.name) 0) (row_of p t.clock)) c.pair_posted.ensures in
+    when_granted _ _ _ _ _ c.in_ok-judge_posting.ensures refl
     (ap (λ l. day_of t l (g.S.Source.screen c.post.new.self)) rows ∙ ap (day_of t _) c.post.ensures.screen)
     (ap told_done posted)

@@ -4,12 +4,12 @@ use Rattle.day.proofs.Rooms.{quotes_long, room_for_quote}
 use Rattle.day.proofs.Stepping.{over_source, when_granted}
 use Rattle.day.proofs.forms.Trading.quote.Goals as goal
 
-pub add-quote-requires : goal.add-quote-requires
-add-quote-requires g c =
+pub add_quote-requires : goal.add_quote-requires
+add_quote-requires g c =
     let s = c.args.self.now in
     record {
       sound = (s.sized, s.counted);
-      room = room_for_quote s.tables (s.sized, s.counted) c.args.offering c.in-ok-judge-offering.ensures;
+      room = room_for_quote s.tables (s.sized, s.counted) c.args.offering c.in_ok-judge_offering.ensures;
     }
 
 pub returns : goal.returns
@@ -17,6 +17,6 @@ returns g c =
     let s = c.args.self.now in
     let rs = g.S.Source.rows s.source in
     let sc = g.S.Source.screen s.source in
-    when_granted _ _ _ _ _ c.in-ok-judge-offering.ensures refl
-    (ap (over_source rs sc) c.add-quote.ensures.day)
+    when_granted _ _ _ _ _ c.in_ok-judge_offering.ensures refl
+    (ap (over_source rs sc) c.add_quote.ensures.day)
     (ap a_number (ap (λ n. n + 1) (sym (quotes_long s.tables (s.sized, s.counted)))))
