@@ -11,7 +11,7 @@ use records::causes::Refusal;
 impl<S: Source> Closed<S> {
     /// Writes what a user sees of the closed day, and says how long it is. A refusal leaves the buffer as it was.
     pub fn view(&self, user: u8, out: &mut [u8]) -> Result<usize, Refusal>
-        ensures { Shows (closed_day rows screen self.now) (views user (length out.old)) out.old out.new result }
+        ensures { Shows (closed_day S.rows S.screen self.now) (views user (length out.old)) out.old out.new result }
     {
         Ok(view(&self.tables, &self.source, user, out)?)
     }

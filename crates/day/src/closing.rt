@@ -12,7 +12,7 @@ use records::causes::Refusal;
 impl<S: Source> Trading<S> {
     /// Files the trades of a debt. A refusal gives the debt back.
     pub fn file(&mut self, debt: Debt) -> Result<(), (Refusal, Debt)>
-        ensures step { Steps (trading_day rows screen self.old) (file debt.report) (trading_day rows screen self.new) (told_filing result) }
+        ensures step { Steps (trading_day S.rows S.screen self.old) (file debt.report) (trading_day S.rows S.screen self.new) (told_filing result) }
         ensures back { DebtBack debt result }
     {
         match judge_filing(&self.tables, &debt.report) {
@@ -27,7 +27,7 @@ impl<S: Source> Trading<S> {
 
     /// Closes the day: all requests and quotes end. While a trade is unfiled, the day is handed back as it was.
     pub fn close(self) -> Result<Closed<S>, Refused<S>>
-        ensures step { Steps (trading_day rows screen self) close (day_closing rows screen result) (told_closing result) }
+        ensures step { Steps (trading_day S.rows S.screen self) close (day_closing S.rows S.screen result) (told_closing result) }
         ensures back { DayBack self result }
     {
         match judge_close(&self.tables) {

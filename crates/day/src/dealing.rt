@@ -12,7 +12,7 @@ impl<S: Source> Trading<S> {
     /// Trades with the named quotes in their order, down to the floor or not at all, and gives the number of trades and the
     /// debt for them.
     pub fn accept(&mut self, acceptance: Acceptance) -> Result<(u16, Debt), Refusal>
-        ensures { Steps (trading_day rows screen self.old) (accepts acceptance) (trading_day rows screen self.new) (told_deal result) }
+        ensures { Steps (trading_day S.rows S.screen self.old) (accepts acceptance) (trading_day S.rows S.screen self.new) (told_deal result) }
     {
         let report = accept(&mut self.tables, &self.source, &acceptance)?;
         let count = report.last + 1 - report.first;

@@ -52,7 +52,7 @@ impl<S: Source> Setup<S> {
     /// Opens the day with a number. From there on, whatever calls come: what entries hold back stays hidden, quantities add
     /// up, and the unfiled trades are those on the debts that are out.
     pub fn open(self, day: u32) -> Trading<S>
-        ensures opened { trading_day rows screen result ≡ open_day (opening_of (setting_of self.tables) day (rows self.source) (screen self.source)) }
+        ensures opened { trading_day S.rows S.screen result ≡ open_day (opening_of (setting_of self.tables) day (S.rows self.source) (S.screen self.source)) }
         ensures source { result.source ≡ self.source }
         ensures hidden { HeldBackStaysHidden }
         ensures strangers { StrangersToldNothing }

@@ -41,7 +41,7 @@ fn leg_asked(letter: char) -> Leg
 impl<S: Source> Trading<S> {
     /// Enters a request, and gives its number.
     pub fn enter(&mut self, entry: Entry) -> Result<u16, Refusal>
-        ensures { Steps (trading_day rows screen self.old) (enter entry) (trading_day rows screen self.new) (told_number result) }
+        ensures { Steps (trading_day S.rows S.screen self.old) (enter entry) (trading_day S.rows S.screen self.new) (told_number result) }
     {
         judge_entry(&self.tables, &entry)?;
         let number = self.tables.request_count + 1;
@@ -51,7 +51,7 @@ impl<S: Source> Trading<S> {
 
     /// Enters a quote, and gives its number. One that names an old quote ends it.
     pub fn quote(&mut self, offering: Offering) -> Result<u16, Refusal>
-        ensures { Steps (trading_day rows screen self.old) (offer offering) (trading_day rows screen self.new) (told_number result) }
+        ensures { Steps (trading_day S.rows S.screen self.old) (offer offering) (trading_day S.rows S.screen self.new) (told_number result) }
     {
         judge_offering(&self.tables, &offering)?;
         let number = self.tables.quote_count + 1;
@@ -61,7 +61,7 @@ impl<S: Source> Trading<S> {
 
     /// Ends a quote of the caller's.
     pub fn pull(&mut self, user: u8, quote: u16) -> Result<(), Refusal>
-        ensures { Steps (trading_day rows screen self.old) (pull user quote) (trading_day rows screen self.new) (told_done result) }
+        ensures { Steps (trading_day S.rows S.screen self.old) (pull user quote) (trading_day S.rows S.screen self.new) (told_done result) }
     {
         judge_pull(&self.tables, user, quote)?;
         pull_quote(&mut self.tables, quote);
@@ -70,7 +70,7 @@ impl<S: Source> Trading<S> {
 
     /// Ends a request of the caller's, and its quotes.
     pub fn cancel(&mut self, user: u8, request: u16) -> Result<(), Refusal>
-        ensures { Steps (trading_day rows screen self.old) (cancel user request) (trading_day rows screen self.new) (told_done result) }
+        ensures { Steps (trading_day S.rows S.screen self.old) (cancel user request) (trading_day S.rows S.screen self.new) (told_done result) }
     {
         judge_cancel(&self.tables, user, request)?;
         cancel_request(&mut self.tables, request);
@@ -79,7 +79,7 @@ impl<S: Source> Trading<S> {
 
     /// Moves the clock, and ends what has expired then.
     pub fn move_clock(&mut self, time: u32) -> Result<(), Refusal>
-        ensures { Steps (trading_day rows screen self.old) (move_clock time) (trading_day rows screen self.new) (told_done result) }
+        ensures { Steps (trading_day S.rows S.screen self.old) (move_clock time) (trading_day S.rows S.screen self.new) (told_done result) }
     {
         judge_time(&self.tables, time)?;
         move_clock(&mut self.tables, time);
@@ -88,7 +88,7 @@ impl<S: Source> Trading<S> {
 
     /// Posts the bid and the offer of a symbol at the clock, or that they are gone.
     pub fn post(&mut self, posting: Posting) -> Result<(), Refusal>
-        ensures { Steps (trading_day rows screen self.old) (post posting) (trading_day rows screen self.new) (told_done result) }
+        ensures { Steps (trading_day S.rows S.screen self.old) (post posting) (trading_day S.rows S.screen self.new) (told_done result) }
     {
         judge_posting(&self.tables, &posting)?;
         let place = place_named(&self.tables, &posting.name).unwrap_or(0);
@@ -98,7 +98,7 @@ impl<S: Source> Trading<S> {
 
     /// What a price of a symbol comes to now.
     pub fn ask_price(&self, question: PriceQuestion) -> Result<u32, Refusal>
-        ensures { Steps (trading_day rows screen self.now) (ask_price question) (trading_day rows screen self.now) (told_number result) }
+        ensures { Steps (trading_day S.rows S.screen self.now) (ask_price question) (trading_day S.rows S.screen self.now) (told_number result) }
     {
         judge_question(&self.tables, &question)?;
         let place = place_named(&self.tables, &question.name).unwrap_or(0);

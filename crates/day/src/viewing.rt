@@ -12,7 +12,7 @@ use records::causes::Refusal;
 impl<S: Source> Trading<S> {
     /// Writes what a user sees of the day, and says how long it is. A refusal leaves the buffer as it was.
     pub fn view(&self, user: u8, out: &mut [u8]) -> Result<usize, Refusal>
-        ensures { Shows (trading_day rows screen self.now) (views user (length out.old)) out.old out.new result }
+        ensures { Shows (trading_day S.rows S.screen self.now) (views user (length out.old)) out.old out.new result }
     {
         Ok(view(&self.tables, &self.source, user, out)?)
     }
@@ -20,7 +20,7 @@ impl<S: Source> Trading<S> {
     /// Writes a request of the caller's with all its fields, and its executable quotes in their order, and says how long
     /// that is. A refusal leaves the buffer as it was.
     pub fn book(&self, user: u8, request: u16, out: &mut [u8]) -> Result<usize, Refusal>
-        ensures { Shows (trading_day rows screen self.now) (books user request (length out.old)) out.old out.new result }
+        ensures { Shows (trading_day S.rows S.screen self.now) (books user request (length out.old)) out.old out.new result }
     {
         Ok(book(&self.tables, &self.source, user, request, out)?)
     }

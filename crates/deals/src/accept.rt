@@ -68,8 +68,8 @@ fn judge_caller(t: &Tables, call: &Acceptance) -> Result<(), Cause>
 /// Judges what can be judged before any fill, and puts the named quotes in line.
 fn judge<S: Source>(t: &Tables, source: &S, call: &Acceptance) -> Result<Line, Cause>
     requires { Sound t.now }
-    ensures verdict { verdict result ≡ unless (take 7 (causes (day_of t.now (rows source.now) (screen source.now)) (accepts call.now))) tt }
-    ensures line { Lines (joined (day_of t.now (rows source.now) (screen source.now)) call.now.request nobody call.now.quotes) result }
+    ensures verdict { verdict result ≡ unless (take 7 (causes (day_of t.now (S.rows source.now) (S.screen source.now)) (accepts call.now))) tt }
+    ensures line { Lines (joined (day_of t.now (S.rows source.now) (S.screen source.now)) call.now.request nobody call.now.quotes) result }
 {
     judge_form(call)?;
     judge_caller(t, call)?;
@@ -107,7 +107,7 @@ fn deal(
 /// Trades with the named quotes in their order, down to the floor or not at all.
 pub fn accept<S: Source>(t: &mut Tables, source: &S, call: &Acceptance) -> Result<Report, Cause>
     requires { Sound t.old }
-    ensures { Deals (day_of t.old (rows source.now) (screen source.now)) call.now t.old t.new result }
+    ensures { Deals (day_of t.old (S.rows source.now) (S.screen source.now)) call.now t.old t.new result }
 {
     let line = judge(t, source, call)?;
     deal(t, call, &line.rows[0..line.len], line.double)

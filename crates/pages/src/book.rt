@@ -109,7 +109,7 @@ pub fn book<S: Source>(
     out: &mut [u8],
 ) -> Result<usize, Cause>
     requires { Sound t.now }
-    ensures { Paged (day_of t.now (rows source.now) (screen source.now)) (book_call user request (length out.old)) (book_page (day_of t.now (rows source.now) (screen source.now)) request) out.old out.new result }
+    ensures { Paged (day_of t.now (S.rows source.now) (S.screen source.now)) (book_call user request (length out.old)) (book_page (day_of t.now (S.rows source.now) (S.screen source.now)) request) out.old out.new result }
 {
     judge_asker(t, user, request)?;
     let mut list = [NO_CANDIDATE; 512];

@@ -57,7 +57,7 @@ pub(crate) fn request_record(t: &Tables, map: u16, n: u16) -> Record
 /// The price now of a leg of quote q.
 fn leg_price<S: Source>(t: &Tables, source: &S, leg: Leg, q: u16) -> Option<u32>
     requires { Sound t.now }
-    ensures { result ≡ leg_now (day_of t.now (rows source.now) (screen source.now)) leg q }
+    ensures { result ≡ leg_now (day_of t.now (S.rows source.now) (S.screen source.now)) leg q }
 {
     let row = quote_at(t, q);
     let place = request_at(t, row.request).place;
@@ -74,7 +74,7 @@ fn bit_if(stands: bool, bit: u16) -> u16
 /// Quote q, with the price of each leg that can be had now.
 pub(crate) fn quote_record<S: Source>(t: &Tables, source: &S, q: u16) -> Record
     requires { Sound t.now }
-    ensures { encode 113 result ≡ quote_line (day_of t.now (rows source.now) (screen source.now)) q }
+    ensures { encode 113 result ≡ quote_line (day_of t.now (S.rows source.now) (S.screen source.now)) q }
 {
     let row = quote_at(t, q);
     let sells = leg_price(t, source, Leg::Selling, q);

@@ -126,7 +126,7 @@ fn put_view<'a, S: Source>(
 ) -> Result<usize, Cause>
     requires sound { Sound t.now }
     requires few { length seen.now ≤ 128 }
-    ensures { Fitted (listed_page (day_of t.now (rows source.now) (screen source.now)) user seen.now) out.old out.new result }
+    ensures { Fitted (listed_page (day_of t.now (S.rows source.now) (S.screen source.now)) user seen.now) out.old out.new result }
 {
     let requests = Requests { t, rows: seen };
     let quotes = Quotes { t, source, user };
@@ -145,7 +145,7 @@ fn put_view<'a, S: Source>(
 /// Writes the user's view of the day into the buffer, and says how long it is. A refusal leaves the buffer as it was.
 pub fn view<S: Source>(t: &Tables, source: &S, user: u8, out: &mut [u8]) -> Result<usize, Cause>
     requires { Sound t.now }
-    ensures { Paged (day_of t.now (rows source.now) (screen source.now)) (view_call user (length out.old)) (view_page (day_of t.now (rows source.now) (screen source.now)) user) out.old out.new result }
+    ensures { Paged (day_of t.now (S.rows source.now) (S.screen source.now)) (view_call user (length out.old)) (view_page (day_of t.now (S.rows source.now) (S.screen source.now)) user) out.old out.new result }
 {
     judge_caller(t, user)?;
     let mut list = [NO_LISTED; 128];

@@ -78,7 +78,7 @@ fn price_from<S: Source>(
     leg: Leg,
     price: Price,
 ) -> Result<u32, Refusal>
-    ensures { result ≡ price_of (read_answer (rows source.now) (screen source.now) place time) ticks leg place price }
+    ensures { result ≡ price_of (read_answer (S.rows source.now) (S.screen source.now) place time) ticks leg place price }
 {
     match price.letter {
         'L' => as_a_price(place, u64::from(price.number)),
@@ -111,7 +111,7 @@ pub fn price_at<S: Source>(
     leg: Leg,
     price: Price,
 ) -> Result<u32, Refusal>
-    ensures value { result ≡ price_of (read_answer (rows source.now) (screen source.now) place time) ticks leg place price }
+    ensures value { result ≡ price_of (read_answer (S.rows source.now) (S.screen source.now) place time) ticks leg place price }
     ensures rounds { Rounds }
     ensures amounts { Amounts }
 {

@@ -4,7 +4,6 @@ ghost use Rattle.records.specs.declared.causes.Refusal.{Refusal as Refused};
 ghost use Rattle.prices.specs.declared.rows.Row.{Row as RowOf};
 ghost use Rattle.prices.specs.declared.rows.Row.TheVariants.{Never};
 ghost use Rattle.prices.specs.Rows.{bare, echo, fresh, post_answer, post_rows, read_answer, row_of, uncrossed};
-ghost use Rattle.std.proofs.Common.{rules, arith};
 
 use super::rows::{PLACES, Pair, Row};
 use records::causes::{Cause, Refusal};
@@ -51,7 +50,7 @@ impl Source for Sheet {
 
     ghost screen = { λ _. bare };
 
-    ghost full = { first_of (Prim.search rules, Prim.grind (arith, Self.row.coded.inj)) };
+    ghost full = { λ s. s.full };
 
     fn post(&mut self, place: usize, pair: Option<Pair>, time: u32) -> Result<(), Refusal> {
         if place >= PLACES {
@@ -108,7 +107,7 @@ impl<S: Source> Source for Crossed<S> {
 
     ghost screen = { λ s. uncrossed (S.Source.screen s.below) };
 
-    ghost full = { Prim.search rules };
+    ghost full = { λ s. S.Source.full s.below };
 
     fn post(&mut self, place: usize, pair: Option<Pair>, time: u32) -> Result<(), Refusal> {
         self.below.post(place, pair, time)
@@ -154,7 +153,7 @@ impl<S: Source> Source for Aged<S> {
 
     ghost screen = { λ s. fresh s.limit (S.Source.screen s.below) };
 
-    ghost full = { Prim.search rules };
+    ghost full = { λ s. S.Source.full s.below };
 
     fn post(&mut self, place: usize, pair: Option<Pair>, time: u32) -> Result<(), Refusal> {
         self.below.post(place, pair, time)
@@ -187,9 +186,9 @@ fn read_after_post<S: Source>(
     posted: u32,
     time: u32,
 ) -> Result<(u32, u32, u32), Refusal>
-    ensures answer { result ≡ read_answer (post_rows (rows source.old) place (row_of pair posted)) (screen source.old) place time }
-    ensures rows { rows source.new ≡ post_rows (rows source.old) place (row_of pair posted) }
-    ensures screen { screen source.new ≡ screen source.old }
+    ensures answer { result ≡ read_answer (post_rows (S.rows source.old) place (row_of pair posted)) (S.screen source.old) place time }
+    ensures rows { S.rows source.new ≡ post_rows (S.rows source.old) place (row_of pair posted) }
+    ensures screen { S.screen source.new ≡ S.screen source.old }
 {
     source.post(place, pair, posted)?;
     source.read(place, time)
@@ -203,9 +202,9 @@ pub fn post_and_read<S: Source>(
     posted: u32,
     time: u32,
 ) -> Result<(u32, u32, u32), Refusal>
-    ensures answer { result ≡ echo (screen source.old) place (row_of pair posted) time }
-    ensures rows { rows source.new ≡ post_rows (rows source.old) place (row_of pair posted) }
-    ensures screen { screen source.new ≡ screen source.old }
+    ensures answer { result ≡ echo (S.screen source.old) place (row_of pair posted) time }
+    ensures rows { S.rows source.new ≡ post_rows (S.rows source.old) place (row_of pair posted) }
+    ensures screen { S.screen source.new ≡ S.screen source.old }
 {
     read_after_post(source, place, pair, posted, time)
 }

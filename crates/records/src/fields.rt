@@ -132,7 +132,7 @@ impl Record {
     /// Sets the field to what the bytes begin with.
     pub(crate) fn set(&mut self, field: Field, bytes: &[u8])
         requires { width (shape field) ≤ length bytes.now }
-        ensures { self.new ≡ kept (same field) (decoded bytes.now) self.old }
+        ensures { self.exit.now ≡ kept (same field) (decoded bytes.now) self.entry.now }
     {
         match field {
             Field::User => self.user = byte(bytes),

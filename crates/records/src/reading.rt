@@ -71,7 +71,7 @@ impl Record {
 fn take_field(slot: Slot, left: u16, bytes: &[u8], at: usize, fields: &mut Record) -> usize
     requires { at + taken_of slot left ≤ length bytes.now }
     ensures next { result ≡ at + taken_of slot left }
-    ensures fields { fields.new ≡ (if odd left then kept (same (field_of slot)) (decoded (drop at bytes.now)) fields.old else fields.old) }
+    ensures fields { fields.exit.now ≡ (if odd left then kept (same (field_of slot)) (decoded (drop at bytes.now)) fields.entry.now else fields.entry.now) }
 {
     if left % 2 != 1 {
         return at;
@@ -187,7 +187,7 @@ fn tail(bytes: &[u8], at: usize) -> &[u8]
 
 fn read_into(bytes: &[u8], at: usize, out: &mut Record) -> Result<(char, usize), Refusal>
     ensures answer { result ≡ read_answer bytes.now at }
-    ensures out { out.new ≡ read_record bytes.now at out.old }
+    ensures out { out.exit.now ≡ read_record bytes.now at out.entry.now }
     ensures within { IfOk result (λ q. (at + 3 ≤ q.1) × (q.1 ≤ length bytes.now)) }
 {
     match read_front(tail(bytes, at)) {
@@ -203,7 +203,7 @@ fn read_into(bytes: &[u8], at: usize, out: &mut Record) -> Result<(char, usize),
 /// record that is lent, which a refusal leaves as it was.
 pub fn read(bytes: &[u8], at: usize, out: &mut Record) -> Result<(char, usize), Refusal>
     ensures answer { result ≡ read_answer bytes.now at }
-    ensures out { out.new ≡ read_record bytes.now at out.old }
+    ensures out { out.exit.now ≡ read_record bytes.now at out.entry.now }
     ensures within { IfOk result (λ q. (at + 3 ≤ q.1) × (q.1 ≤ length bytes.now)) }
     ensures back { ReadWrite }
 {

@@ -52,7 +52,7 @@ pub fn price_at_clock<S: Source>(
     price: Price,
 ) -> Result<u32, Refusal>
     requires { Sound t.now }
-    ensures { result ≡ price_now (day_of t.now (rows source.now) (screen source.now)) place leg price }
+    ensures { result ≡ price_now (day_of t.now (S.rows source.now) (S.screen source.now)) place leg price }
 {
     price_at(
         source,
@@ -73,7 +73,7 @@ pub fn price_had<S: Source>(
     price: Option<Price>,
 ) -> Option<u32>
     requires { Sound t.now }
-    ensures { result ≡ had_now (day_of t.now (rows source.now) (screen source.now)) place leg price }
+    ensures { result ≡ had_now (day_of t.now (S.rows source.now) (S.screen source.now)) place leg price }
 {
     match price {
         Some(price) => price_at_clock(t, source, place, leg, price).ok(),
@@ -84,7 +84,7 @@ pub fn price_had<S: Source>(
 /// The price now of the leg of quote q that request n meets.
 pub fn quote_price_now<S: Source>(t: &Tables, source: &S, n: u16, q: u16) -> Option<u32>
     requires { Sound t.now }
-    ensures { result ≡ quote_price (day_of t.now (rows source.now) (screen source.now)) n q }
+    ensures { result ≡ quote_price (day_of t.now (S.rows source.now) (S.screen source.now)) n q }
 {
     let row = request_at(t, n);
     let leg = leg_met(row.side);
@@ -94,7 +94,7 @@ pub fn quote_price_now<S: Source>(t: &Tables, source: &S, n: u16, q: u16) -> Opt
 /// The price now of the limit of request n.
 pub fn limit_price_now<S: Source>(t: &Tables, source: &S, n: u16) -> Option<u32>
     requires { Sound t.now }
-    ensures { result ≡ limit_price (day_of t.now (rows source.now) (screen source.now)) n }
+    ensures { result ≡ limit_price (day_of t.now (S.rows source.now) (S.screen source.now)) n }
 {
     let row = request_at(t, n);
     price_had(t, source, row.place, leg_met(row.side), Some(row.limit))
@@ -141,7 +141,7 @@ fn is_enough(t: &Tables, n: u16, q: u16) -> bool
 /// Whether quote q can be traded on request n now.
 pub fn executable<S: Source>(t: &Tables, source: &S, n: u16, q: u16) -> bool
     requires { Sound t.now }
-    ensures { result ≡ executable_on (day_of t.now (rows source.now) (screen source.now)) n q }
+    ensures { result ≡ executable_on (day_of t.now (S.rows source.now) (S.screen source.now)) n q }
 {
     if !is_live_on(t, n, q) {
         return false;
@@ -154,7 +154,7 @@ pub fn executable<S: Source>(t: &Tables, source: &S, n: u16, q: u16) -> bool
 /// Quote q with what places it in the order of an acceptance on request n.
 pub fn candidate<S: Source>(t: &Tables, source: &S, n: u16, q: u16) -> Candidate
     requires { Sound t.now }
-    ensures { result ≡ candidate_of (day_of t.now (rows source.now) (screen source.now)) n q }
+    ensures { result ≡ candidate_of (day_of t.now (S.rows source.now) (S.screen source.now)) n q }
 {
     Candidate {
         side: request_at(t, n).side,

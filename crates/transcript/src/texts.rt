@@ -19,7 +19,7 @@ fn add_lines<S: Source + Drop>(
     bytes: &[u8],
     buffer: &mut [u8],
 ) -> Result<(), AllocError>
-    ensures { OnOk result (text.new.items ≡ text.old.items ++ text_of (length buffer.old) (length bytes.now) bytes.now 0 1 (state_of rows screen start)) }
+    ensures { OnOk result (text.new.items ≡ text.old.items ++ text_of (length buffer.old) (length bytes.now) bytes.now 0 1 (state_of S.rows S.screen start)) }
 {
     let mut run = start;
     let mut at: usize = 0;
@@ -49,7 +49,7 @@ fn transcribe_over<S: Source + Drop>(
     source: S,
     bytes: &[u8],
 ) -> Result<Vec<u8>, AllocError>
-    ensures { IfOk result (λ v. v.items ≡ text_of 32768 (length bytes.now) bytes.now 0 1 (setting nothing_set (rows source) (screen source))) }
+    ensures { IfOk result (λ v. v.items ≡ text_of 32768 (length bytes.now) bytes.now 0 1 (setting nothing_set (S.rows source) (S.screen source))) }
 {
     let mut text = Vec::new(heap);
     let mut buffer = [0u8; 32768];

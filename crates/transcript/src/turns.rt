@@ -59,7 +59,7 @@ fn set_up<S: Source>(
     fields: &Record,
 ) -> Result<(), AllocError>
     requires { kind ≢ Some Opening }
-    ensures { OnOk result ((room : ℕ) → Answered at count letter (setup_state rows screen setup.old) (asked_by room kind fields.now) (setup_state rows screen setup.new) text.old.items text.new.items) }
+    ensures { OnOk result ((room : ℕ) → Answered at count letter (setup_state S.rows S.screen setup.old) (asked_by room kind fields.now) (setup_state S.rows S.screen setup.new) text.old.items text.new.items) }
 {
     match kind {
         Some(Kind::NewUser) => {
@@ -85,7 +85,7 @@ fn set_up_or_open<S: Source + Drop>(
     kind: Option<Kind>,
     fields: &Record,
 ) -> Result<Run<S>, AllocError>
-    ensures { IfOk result (λ run. (room : ℕ) → Answered at count letter (setup_state rows screen setup) (asked_by room kind fields.now) (state_of rows screen run) text.old.items text.new.items) }
+    ensures { IfOk result (λ run. (room : ℕ) → Answered at count letter (setup_state S.rows S.screen setup) (asked_by room kind fields.now) (state_of S.rows S.screen run) text.old.items text.new.items) }
 {
     match kind {
         Some(Kind::Opening) => {
@@ -108,7 +108,7 @@ fn add_entry<S: Source>(
     day: &mut Trading<S>,
     entry: Entry,
 ) -> Result<(), AllocError>
-    ensures { OnOk result (Called count letter (trading_day rows screen day.old) (enter entry) (trading_day rows screen day.new) text.old.items text.new.items) }
+    ensures { OnOk result (Called count letter (trading_day S.rows S.screen day.old) (enter entry) (trading_day S.rows S.screen day.new) text.old.items text.new.items) }
 {
     match day.enter(entry) {
         Ok(number) => add_number(text, heap, count, letter, u64::from(number)),
@@ -126,7 +126,7 @@ fn add_view<S: Source>(
     user: u8,
     buffer: &mut [u8],
 ) -> Result<(), AllocError>
-    ensures { OnOk result (Called count letter (trading_day rows screen day.now) (view user (length buffer.old)) (trading_day rows screen day.now) text.old.items text.new.items) }
+    ensures { OnOk result (Called count letter (trading_day S.rows S.screen day.now) (view user (length buffer.old)) (trading_day S.rows S.screen day.now) text.old.items text.new.items) }
 {
     match day.view(user, buffer) {
         Ok(len) => add_page(text, heap, count, letter, buffer, len),
@@ -144,7 +144,7 @@ fn add_acceptance<S: Source>(
     day: &mut Trading<S>,
     acceptance: Acceptance,
 ) -> Result<(), AllocError>
-    ensures { OnOk result (Answered at count letter (running (trading_day rows screen day.old)) (to_accept acceptance) (running (trading_day rows screen day.new)) text.old.items text.new.items) }
+    ensures { OnOk result (Answered at count letter (running (trading_day S.rows S.screen day.old)) (to_accept acceptance) (running (trading_day S.rows S.screen day.new)) text.old.items text.new.items) }
 {
     match day.accept(acceptance) {
         Ok((trades, debt)) => match day.file(debt) {
@@ -164,7 +164,7 @@ fn add_quote<S: Source>(
     day: &mut Trading<S>,
     offering: Offering,
 ) -> Result<(), AllocError>
-    ensures { OnOk result (Called count letter (trading_day rows screen day.old) (offer offering) (trading_day rows screen day.new) text.old.items text.new.items) }
+    ensures { OnOk result (Called count letter (trading_day S.rows S.screen day.old) (offer offering) (trading_day S.rows S.screen day.new) text.old.items text.new.items) }
 {
     match day.quote(offering) {
         Ok(number) => add_number(text, heap, count, letter, u64::from(number)),
@@ -181,7 +181,7 @@ fn add_price<S: Source>(
     day: &Trading<S>,
     question: PriceQuestion,
 ) -> Result<(), AllocError>
-    ensures { OnOk result (Called count letter (trading_day rows screen day.now) (ask_price question) (trading_day rows screen day.now) text.old.items text.new.items) }
+    ensures { OnOk result (Called count letter (trading_day S.rows S.screen day.now) (ask_price question) (trading_day S.rows S.screen day.now) text.old.items text.new.items) }
 {
     match day.ask_price(question) {
         Ok(number) => add_number(text, heap, count, letter, u64::from(number)),
@@ -200,7 +200,7 @@ fn add_book<S: Source>(
     request: u16,
     buffer: &mut [u8],
 ) -> Result<(), AllocError>
-    ensures { OnOk result (Called count letter (trading_day rows screen day.now) (book user request (length buffer.old)) (trading_day rows screen day.now) text.old.items text.new.items) }
+    ensures { OnOk result (Called count letter (trading_day S.rows S.screen day.now) (book user request (length buffer.old)) (trading_day S.rows S.screen day.now) text.old.items text.new.items) }
 {
     match day.book(user, request, buffer) {
         Ok(len) => add_page(text, heap, count, letter, buffer, len),
@@ -221,7 +221,7 @@ fn trade<S: Source>(
     buffer: &mut [u8],
 ) -> Result<(), AllocError>
     requires { kind ≢ Some Closing }
-    ensures { OnOk result (Answered at count letter (running (trading_day rows screen day.old)) (asked_by (length buffer.old) kind fields.now) (running (trading_day rows screen day.new)) text.old.items text.new.items) }
+    ensures { OnOk result (Answered at count letter (running (trading_day S.rows S.screen day.old)) (asked_by (length buffer.old) kind fields.now) (running (trading_day S.rows S.screen day.new)) text.old.items text.new.items) }
 {
     match kind {
         Some(Kind::Entry) => add_entry(text, heap, count, letter, day, entry_of(fields)),
@@ -284,7 +284,7 @@ fn shut<S: Source + Drop>(
     letter: char,
     day: Trading<S>,
 ) -> Result<Run<S>, AllocError>
-    ensures { IfOk result (λ run. Answered 0 count letter (running (trading_day rows screen day)) (to_call close) (state_of rows screen run) text.old.items text.new.items) }
+    ensures { IfOk result (λ run. Answered 0 count letter (running (trading_day S.rows S.screen day)) (to_call close) (state_of S.rows S.screen run) text.old.items text.new.items) }
 {
     match day.close() {
         Ok(closed) => {
@@ -310,7 +310,7 @@ fn look_back<S: Source>(
     fields: &Record,
     buffer: &mut [u8],
 ) -> Result<(), AllocError>
-    ensures { OnOk result (Answered at count letter (running (closed_day rows screen day.now)) (asked_by (length buffer.old) kind fields.now) (running (closed_day rows screen day.now)) text.old.items text.new.items) }
+    ensures { OnOk result (Answered at count letter (running (closed_day S.rows S.screen day.now)) (asked_by (length buffer.old) kind fields.now) (running (closed_day S.rows S.screen day.now)) text.old.items text.new.items) }
 {
     match kind {
         Some(Kind::ViewQuestion) => match day.view(fields.user, buffer) {
@@ -333,7 +333,7 @@ fn answer_in_place<S: Source>(
     fields: &Record,
     buffer: &mut [u8],
 ) -> Result<bool, AllocError>
-    ensures { IfOk result (λ did. InPlace did (Answered at count letter (state_of rows screen run.old) (asked_by (length buffer.old) kind fields.now) (state_of rows screen run.new) text.old.items text.new.items) (state_of rows screen run.old) (state_of rows screen run.new) text.old.items text.new.items) }
+    ensures { IfOk result (λ did. InPlace did (Answered at count letter (state_of S.rows S.screen run.old) (asked_by (length buffer.old) kind fields.now) (state_of S.rows S.screen run.new) text.old.items text.new.items) (state_of S.rows S.screen run.old) (state_of S.rows S.screen run.new) text.old.items text.new.items) }
 {
     match run {
         Run::Setting(setup) => match kind {
@@ -369,7 +369,7 @@ fn answer_record<S: Source + Drop>(
     fields: &Record,
     buffer: &mut [u8],
 ) -> Result<Run<S>, AllocError>
-    ensures { IfOk result (λ then. Answered at count letter (state_of rows screen run) (asked_by (length buffer.old) kind fields.now) (state_of rows screen then) text.old.items text.new.items) }
+    ensures { IfOk result (λ then. Answered at count letter (state_of S.rows S.screen run) (asked_by (length buffer.old) kind fields.now) (state_of S.rows S.screen then) text.old.items text.new.items) }
 {
     match run {
         Run::Setting(setup) => {
@@ -397,7 +397,7 @@ fn trade_or_shut<S: Source + Drop>(
     fields: &Record,
     buffer: &mut [u8],
 ) -> Result<Run<S>, AllocError>
-    ensures { IfOk result (λ then. Answered at count letter (running (trading_day rows screen day)) (asked_by (length buffer.old) kind fields.now) (state_of rows screen then) text.old.items text.new.items) }
+    ensures { IfOk result (λ then. Answered at count letter (running (trading_day S.rows S.screen day)) (asked_by (length buffer.old) kind fields.now) (state_of S.rows S.screen then) text.old.items text.new.items) }
 {
     match kind {
         Some(Kind::Closing) => shut(text, heap, count, letter, day),
@@ -428,7 +428,7 @@ pub fn add_turn<S: Source>(
     at: usize,
     buffer: &mut [u8],
 ) -> Result<Step, AllocError>
-    ensures { IfOk result (λ step. Stepped (length buffer.old) bytes.now at count (state_of rows screen run.old) (state_of rows screen run.new) text.old.items text.new.items step) }
+    ensures { IfOk result (λ step. Stepped (length buffer.old) bytes.now at count (state_of S.rows S.screen run.old) (state_of S.rows S.screen run.new) text.old.items text.new.items step) }
 {
     let letter = letter_at(bytes, at);
     let mut fields = Record::blank(0);
@@ -461,7 +461,7 @@ pub fn add_move<S: Source + Drop>(
     at: usize,
     buffer: &mut [u8],
 ) -> Result<(Run<S>, Option<usize>), AllocError>
-    ensures { IfOk result (λ q. Turned (length buffer.old) bytes.now at count (state_of rows screen run) (state_of rows screen q.0) text.old.items text.new.items q.1) }
+    ensures { IfOk result (λ q. Turned (length buffer.old) bytes.now at count (state_of S.rows S.screen run) (state_of S.rows S.screen q.0) text.old.items text.new.items q.1) }
 {
     let letter = letter_at(bytes, at);
     let mut fields = Record::blank(0);

@@ -4,7 +4,6 @@ mod Counting
 pub mod Dealing
 mod Ending
 mod Filling
-pub mod Hidden
 mod Nearby
 pub mod Owing
 mod Paging
@@ -12,6 +11,7 @@ pub mod Premises
 pub mod Replies
 pub mod Resting
 mod Rooming
+pub mod Secrecy
 pub mod Staying
 pub mod Strangers
 pub mod Summing

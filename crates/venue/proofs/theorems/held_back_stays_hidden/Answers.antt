@@ -1,4 +1,4 @@
-use Rattle.venue.proofs.Hidden.{hidden}
+use Rattle.venue.proofs.Secrecy.{hidden}
 use Rattle.venue.proofs.Premises.{sample}
 use Rattle.venue.proofs.Strangers.{strangers_told_nothing}
 use Rattle.venue.proofs.theorems.held_back_stays_hidden.Goals as goal

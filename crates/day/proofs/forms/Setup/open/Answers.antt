@@ -1,6 +1,6 @@
 use Rattle.std.proofs.Common.{refl, ap}
 use Rattle.venue.proofs.Dealing.{trades_are_good}
-use Rattle.venue.proofs.Hidden.{hidden}
+use Rattle.venue.proofs.Secrecy.{hidden}
 use Rattle.venue.proofs.Owing.{debts}
 use Rattle.venue.proofs.Resting.{ended_rests}
 use Rattle.venue.proofs.Staying.{entries_stay, offers_stay}
