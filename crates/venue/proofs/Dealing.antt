@@ -18,7 +18,7 @@ use Rattle.venue.specs.Laws.{Turns, Turns.finished, Turns.passed, Turns.traded}
 use Rattle.venue.specs.Quantities.{Within, Between, Good, Made, TradesAreGood}
 use Rattle.venue.proofs.Filling.{fills_by_turns}
 use Rattle.venue.proofs.Replies.{judged}
-use Rattle.venue.specs.Sorting.{sorted_quotes}
+use Rattle.venue.proofs.Sorting.{sorted_quotes}
 
 -- what is known of two prices that stand in the right order
 pub record Had (side : Side) (price limit : Option ℕ) : Type 0 where

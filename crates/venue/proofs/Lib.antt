@@ -12,6 +12,7 @@ pub mod Replies
 pub mod Resting
 mod Rooming
 pub mod Secrecy
+mod Sorting
 pub mod Staying
 pub mod Strangers
 pub mod Summing

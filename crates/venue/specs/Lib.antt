@@ -5,10 +5,10 @@ pub mod Debts
 pub mod Laws
 pub mod Model
 pub mod Numbers
+pub mod Orders
 pub mod Pages
 pub mod Parts
 pub mod Quantities
 pub mod Setting
 pub mod Trading
 pub mod TwoDays
-pub mod Sorting
