@@ -1,6 +1,6 @@
 -- What an acceptance leaves. Assumes nothing.
 use Rattle.std.proofs.Common.{◌≡◌, ℕ, ◌+◌, ◌<◌, ◌≤◌, Bool, cond, ◌&&◌, ◌||◌, eqb, List, [], ◌∷◌, ◌++◌, length, get_or, take, drop, set, sym, refl, ap, ◌∙◌, append_assoc, append-nil, arith}
-use Rattle.std.proofs.lemmas.List.{length-take-le, drop_more, drop_all, get_or-take, take_more_set, drop_set_lt}
+use Rattle.std.proofs.lemmas.List.{length-take-le, drop_more, drop_all, get_or-take, take_more_set, drop-set-lt}
 use Rattle.venue.specs.declared.rows.Life.TheVariants.{Accepted}
 use Rattle.venue.specs.declared.rows.Acceptance.{Acceptance}
 use Rattle.venue.specs.declared.rows.Request.{Request}
@@ -37,7 +37,7 @@ module _ (n : ℕ) (over : Bool) (old quotes : List Quote) (remains : List ℕ) 
               ∙ append_assoc (take i quotes) (row ∷ []) (rest (i + 1))
               ∙ ap (λ l. take i quotes ++ l) (sym step)
               ∙ inv,
-          drop_set_lt (i + 1) quotes i row (omega arith) ∙ behind,
+          drop-set-lt (i + 1) quotes i row (omega arith) ∙ behind,
         )
 
   pub settled_all : count ≤ length old → count ≤ i → i ≤ count → take i quotes ++ rest i ≡ all → take count quotes ≡ all

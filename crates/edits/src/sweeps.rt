@@ -19,7 +19,7 @@ pub trait Change<R> {
 
 /// Changes every row.
 pub fn sweep<R: Copy, C: Change<R>>(rows: &mut [R], by: &C)
-    ensures { rows.new ≡ map (changed by.now) rows.old }
+    ensures { rows.new ≡ map (C.changed by.now) rows.old }
 {
     for i in 0..rows.len() {
         by.change(&mut rows[i]);

@@ -85,8 +85,8 @@ fn put_line(line: Option<Line>, out: &mut [u8], at: usize) -> usize
 
 /// How long all the lines are.
 fn total<X: Section>(section: &X) -> usize
-    requires { sound section.now }
-    ensures { result ≡ length (lines_of (bytes section.now) (size section.now)) }
+    requires { X.sound section.now }
+    ensures { result ≡ length (lines_of (X.bytes section.now) (X.size section.now)) }
 {
     let mut total: usize = 0;
     for n in 0..section.count() {
@@ -97,9 +97,9 @@ fn total<X: Section>(section: &X) -> usize
 
 /// Writes all the lines to the front of the buffer.
 fn put_lines<X: Section>(section: &X, out: &mut [u8])
-    requires sound { sound section.now }
-    requires room { length (lines_of (bytes section.now) (size section.now)) ≤ length out.old }
-    ensures { out.new ≡ over out.old 0 (lines_of (bytes section.now) (size section.now)) }
+    requires sound { X.sound section.now }
+    requires room { length (lines_of (X.bytes section.now) (X.size section.now)) ≤ length out.old }
+    ensures { out.new ≡ over out.old 0 (lines_of (X.bytes section.now) (X.size section.now)) }
 {
     let mut at: usize = 0;
     for n in 0..section.count() {
@@ -109,8 +109,8 @@ fn put_lines<X: Section>(section: &X, out: &mut [u8])
 
 /// Writes a page to the front of the buffer, if there is room for it, and says how long it is.
 pub(crate) fn put_page<X: Section>(page: &X, out: &mut [u8]) -> Result<usize, Cause>
-    requires { sound page.now }
-    ensures { Fitted (lines_of (bytes page.now) (size page.now)) out.old out.new result }
+    requires { X.sound page.now }
+    ensures { Fitted (lines_of (X.bytes page.now) (X.size page.now)) out.old out.new result }
 {
     let len = total(page);
     if len > out.len() {

@@ -1,5 +1,5 @@
 // What is read of the tables. A number or a place that is none gives the empty row.
-ghost use Rattle.std.specs.Prelude.{◌≡◌, ◌≤◌, length, take, slice_index_or};
+ghost use Rattle.std.specs.Prelude.{◌≡◌, ◌<◌, ◌≤◌, length, take, slice_index_or};
 ghost use Rattle.tables.specs.Tabled.{Sound, bare_day};
 ghost use Rattle.venue.specs.Days.{numbered as row_numbered, open_of, quote_of, remaining_of, request_of, symbol_of, trade_of, user_of};
 
@@ -85,10 +85,13 @@ pub fn user_at(t: &Tables, n: u8) -> User
     placed(&t.users, USERS, n as usize, NO_USER)
 }
 
-/// The symbol at a place.
+/// The symbol at a place. Where there is none, no price has a tick and no trade is large; its name is blank in the tables,
+/// and a day's has none.
 pub fn symbol_at(t: &Tables, place: usize) -> Symbol
     requires { Sound t.now }
-    ensures { result ≡ symbol_of (bare_day t.now) place }
+    ensures ticks { result.ticks ≡ (symbol_of (bare_day t.now) place).ticks }
+    ensures large { result.large ≡ (symbol_of (bare_day t.now) place).large }
+    ensures name { place < t.now.symbol_count → result.name ≡ (symbol_of (bare_day t.now) place).name }
 {
     placed(&t.symbols, t.symbol_count, place, NO_SYMBOL)
 }

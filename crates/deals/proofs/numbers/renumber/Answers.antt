@@ -1,5 +1,5 @@
 use Rattle.std.proofs.Common.{take, drop, sym, refl, ap, arith}
-use Rattle.std.proofs.lemmas.List.{take-set-le, drop_set_lt}
+use Rattle.std.proofs.lemmas.List.{take-set-le, drop-set-lt}
 use Rattle.venue.specs.Trading.{renumbered}
 use Rattle.deals.proofs.Numbering.{own_part, own_none}
 use Rattle.deals.proofs.numbers.renumber.Goals as goal
@@ -26,5 +26,5 @@ returns g c =
     record {
       own = own_part xs c.args.from c.args.count c.args.n c.args.row (omega arith) (omega arith);
       front = λ k h. take-set-le k xs _ c.args.row (omega arith);
-      back = λ k h. drop_set_lt k xs _ c.args.row (omega arith);
+      back = λ k h. drop-set-lt k xs _ c.args.row (omega arith);
     }
