@@ -7,6 +7,7 @@ mod Filling
 mod Nearby
 pub mod Owing
 mod Paging
+pub mod Placing
 pub mod Premises
 pub mod Replies
 pub mod Resting

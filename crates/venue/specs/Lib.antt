@@ -8,6 +8,7 @@ pub mod Numbers
 pub mod Orders
 pub mod Pages
 pub mod Parts
+pub mod Places
 pub mod Quantities
 pub mod Setting
 pub mod Trading
