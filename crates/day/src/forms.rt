@@ -1,5 +1,6 @@
 // The forms of a day, and the debt that an acceptance leaves.
-ghost use Rattle.tables.specs.Tabled.{Counted, Sized};
+ghost use Rattle.tables.specs.Tabled.{Counted, Sized, bare_day};
+ghost use Rattle.venue.specs.Places.{Placed};
 
 use prices::sources::Source;
 use records::causes::Refusal;
@@ -22,6 +23,7 @@ pub struct Trading<S: Source> {
     pub(crate) source: S,
     ghost sized: { Sized tables },
     ghost counted: { Counted tables },
+    ghost placed: { Placed (bare_day tables) },
 }
 
 /// A day that is closed: it answers views.
@@ -31,6 +33,7 @@ pub struct Closed<S: Source> {
     pub(crate) source: S,
     ghost sized: { Sized tables },
     ghost counted: { Counted tables },
+    ghost placed: { Placed (bare_day tables) },
 }
 
 /// A close that was refused, and the day as it was.

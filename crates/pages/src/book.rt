@@ -5,7 +5,9 @@ ghost use Rattle.venue.specs.Calls.{book as book_call};
 ghost use Rattle.venue.specs.Pages.{book_page, executable_line, whole_line};
 ghost use Rattle.pages.specs.Listing.{no_candidate, ranked_page};
 ghost use Rattle.pages.specs.Paged.{Fitted, Paged};
+ghost use Rattle.pages.specs.Seats.{Seated};
 ghost use Rattle.pages.specs.Sections.{row_line};
+ghost use Rattle.venue.specs.Places.{Placed};
 
 use super::judging::judge_asker;
 use super::lines::{executable_record, request_record};
@@ -37,7 +39,7 @@ struct Whole<'a> {
 }
 
 impl<'a> Section for Whole<'a> {
-    ghost sound = { λ s. Sound s.t.now };
+    ghost sound = { λ s. Sound s.t.now × Seated s.t.now };
 
     ghost size = { λ _. 1 };
 
@@ -89,6 +91,7 @@ fn put_book<'a>(
     out: &mut [u8],
 ) -> Result<usize, Cause>
     requires sound { Sound t.now }
+    requires seated { Seated t.now }
     requires few { length line.now ≤ 512 }
     ensures { Fitted (ranked_page (bare_day t.now) request line.now) out.old out.new result }
 {
@@ -108,7 +111,8 @@ pub fn book<S: Source>(
     request: u16,
     out: &mut [u8],
 ) -> Result<usize, Cause>
-    requires { Sound t.now }
+    requires sound { Sound t.now }
+    requires placed { Placed (bare_day t.now) }
     ensures { Paged (day_of t.now (S.rows source.now) (S.screen source.now)) (book_call user request (length out.old)) (book_page (day_of t.now (S.rows source.now) (S.screen source.now)) request) out.old out.new result }
 {
     judge_asker(t, user, request)?;

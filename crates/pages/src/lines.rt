@@ -4,6 +4,7 @@ ghost use Rattle.tables.specs.Tabled.{Sound, bare_day, day_of};
 ghost use Rattle.venue.specs.Trading.{is_late};
 ghost use Rattle.venue.specs.Pages.{executable_line, leg_now, name_of, quote_line, request_line, side_letter, trade_line};
 ghost use Rattle.records.specs.Writing.{encode};
+ghost use Rattle.pages.specs.Seats.{Seated};
 
 use prices::rows::Leg;
 use prices::sources::Source;
@@ -25,7 +26,8 @@ fn letter_of(side: Side) -> char
 
 /// The name of the symbol of request n.
 pub(crate) fn name_at(t: &Tables, n: u16) -> [u8; 8]
-    requires { Sound t.now }
+    requires sound { Sound t.now }
+    requires seated { Seated t.now }
     ensures value { result ≡ name_of (bare_day t.now) n }
     ensures eight { length result ≡ 8 }
 {
@@ -37,7 +39,8 @@ pub(crate) fn name_at(t: &Tables, n: u16) -> [u8; 8]
 
 /// Request n, with the fields of the bit map.
 pub(crate) fn request_record(t: &Tables, map: u16, n: u16) -> Record
-    requires { Sound t.now }
+    requires sound { Sound t.now }
+    requires seated { Seated t.now }
     ensures { encode 114 result ≡ request_line (bare_day t.now) map n }
 {
     let row = request_at(t, n);
@@ -111,7 +114,8 @@ fn own_side(trade: Trade, user: u8) -> char
 
 /// Trade n, with the user's own side, and LRGS where it is late.
 pub(crate) fn trade_record(t: &Tables, user: u8, n: u16) -> Record
-    requires { Sound t.now }
+    requires sound { Sound t.now }
+    requires seated { Seated t.now }
     ensures { encode 116 result ≡ trade_line (bare_day t.now) user n }
 {
     let trade = trade_at(t, n);

@@ -1,12 +1,14 @@
 // A view: the open requests sent to the user, its live quotes, and its trades.
-ghost use Rattle.std.specs.Prelude.{◌≤◌, ◌||◌, length, ◌==◌};
+ghost use Rattle.std.specs.Prelude.{◌<◌, ◌≤◌, ◌||◌, length, ◌==◌};
 ghost use Rattle.tables.specs.Tabled.{Sound, bare_day, day_of};
 ghost use Rattle.venue.specs.Calls.{view as view_call};
 ghost use Rattle.venue.specs.Days.{holds, trade_of};
 ghost use Rattle.venue.specs.Pages.{quote_line, shown_line, trade_line, view_page};
 ghost use Rattle.pages.specs.Listing.{listed_page, no_listed};
 ghost use Rattle.pages.specs.Paged.{Fitted, Paged};
+ghost use Rattle.pages.specs.Seats.{Seated};
 ghost use Rattle.pages.specs.Sections.{if_shown, row_line};
+ghost use Rattle.venue.specs.Places.{Placed};
 
 use super::judging::judge_caller;
 use super::lines::{quote_record, request_record, trade_record};
@@ -32,7 +34,7 @@ struct Requests<'a> {
 }
 
 impl<'a> Section for Requests<'a> {
-    ghost sound = { λ s. Sound s.t.now × (length s.rows.now ≤ 128) };
+    ghost sound = { λ s. Sound s.t.now × (length s.rows.now ≤ 128) × (0 < length s.rows.now → Seated s.t.now) };
 
     ghost size = { λ s. length s.rows.now };
 
@@ -93,7 +95,7 @@ struct Trades<'a> {
 }
 
 impl<'a> Section for Trades<'a> {
-    ghost sound = { λ s. Sound s.t.now };
+    ghost sound = { λ s. Sound s.t.now × (0 < s.t.now.trade_count → Seated s.t.now) };
 
     ghost size = { λ s. s.t.now.trade_count };
 
@@ -126,6 +128,8 @@ fn put_view<'a, S: Source>(
 ) -> Result<usize, Cause>
     requires sound { Sound t.now }
     requires few { length seen.now ≤ 128 }
+    requires seen { 0 < length seen.now → Seated t.now }
+    requires traded { 0 < t.now.trade_count → Seated t.now }
     ensures { Fitted (listed_page (day_of t.now (S.rows source.now) (S.screen source.now)) user seen.now) out.old out.new result }
 {
     let requests = Requests { t, rows: seen };
@@ -144,7 +148,8 @@ fn put_view<'a, S: Source>(
 
 /// Writes the user's view of the day into the buffer, and says how long it is. A refusal leaves the buffer as it was.
 pub fn view<S: Source>(t: &Tables, source: &S, user: u8, out: &mut [u8]) -> Result<usize, Cause>
-    requires { Sound t.now }
+    requires sound { Sound t.now }
+    requires placed { Placed (bare_day t.now) }
     ensures { Paged (day_of t.now (S.rows source.now) (S.screen source.now)) (view_call user (length out.old)) (view_page (day_of t.now (S.rows source.now) (S.screen source.now)) user) out.old out.new result }
 {
     judge_caller(t, user)?;
