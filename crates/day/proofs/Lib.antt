@@ -1,3 +1,4 @@
 pub mod Rooms
+pub mod Seating
 pub mod Stepping
 pub mod Showing

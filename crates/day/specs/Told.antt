@@ -4,6 +4,7 @@ use Rattle.std.specs.Prelude.{◌≡◌, ℕ, ◌≤◌, List, [], ◌++◌, len
 use Rattle.records.specs.declared.causes.Refusal.{Refusal}
 use Rattle.prices.specs.declared.rows.Row.{Row}
 use Rattle.prices.specs.Rows.{Screen}
+use Rattle.prices.specs.declared.sources.Source.{Ghosts}
 use Rattle.tables.specs.Tabled.{day_of}
 use Rattle.venue.specs.Days.{Day}
 use Rattle.venue.specs.Calls.{Call}
@@ -14,15 +15,15 @@ use Rattle.day.specs.declared.forms.Refused.{Refused}
 use Rattle.day.specs.declared.forms.Debt.{Debt}
 
 -- the day that a form stands for, given what its source means
-module _ {S : Type 0} (rows : S → List Row) (screen : S → Screen) where
-  abbrev pub trading_day : Trading S → Day
+module _ {S : Type 0} {g : Ghosts S} (rows : S → List Row) (screen : S → Screen) where
+  abbrev pub trading_day : Trading S g → Day
   trading_day t = day_of t.tables (rows t.source) (screen t.source)
 
-  abbrev pub closed_day : Closed S → Day
+  abbrev pub closed_day : Closed S g → Day
   closed_day c = shut (day_of c.tables (rows c.source) (screen c.source))
 
   -- the day after a close: closed, or handed back
-  abbrev pub day_closing : Result (Closed S) (Refused S) → Day
+  abbrev pub day_closing : Result (Closed S g) (Refused S g) → Day
   day_closing (Ok c) = closed_day c
   day_closing (Err f) = trading_day f.day
 
@@ -45,7 +46,7 @@ abbrev pub told_filing : Result Unit (Refusal × Debt) → Result Reply Refusal
 told_filing (Ok _) = a_number 0
 told_filing (Err p) = Err p.0
 
-abbrev pub told_closing : {S : Type 0} → Result (Closed S) (Refused S) → Result Reply Refusal
+abbrev pub told_closing : {S : Type 0} {g : Ghosts S} → Result (Closed S g) (Refused S g) → Result Reply Refusal
 told_closing (Ok _) = a_number 0
 told_closing (Err f) = Err f.refusal
 
@@ -54,7 +55,7 @@ abbrev pub DebtBack : Debt → Result Unit (Refusal × Debt) → Type 0
 DebtBack debt (Ok _) = Unit {0}
 DebtBack debt (Err p) = p.1 ≡ debt
 
-abbrev pub DayBack : {S : Type 0} → Trading S → Result (Closed S) (Refused S) → Type 0
+abbrev pub DayBack : {S : Type 0} {g : Ghosts S} → Trading S g → Result (Closed S g) (Refused S g) → Type 0
 DayBack t (Ok _) = Unit {0}
 DayBack t (Err f) = (f.day.tables ≡ t.tables) × (f.day.source ≡ t.source)
 

@@ -1,5 +1,5 @@
 -- Every request stands on a symbol of the day, from the opening on. Assumes nothing.
-use Rattle.std.proofs.Common.{◌≡◌, ℕ, zero, suc, ◌+◌, ◌-◌, ◌<◌, ◌≤◌, Bool, true, false, not, ◌&&◌, ◌||◌, List, [], ◌∷◌, ◌++◌, map, length, get_or, Some, None, Ok, unwrap_or, is_some, sym, refl, ap, ◌∙◌, subst, arith}
+use Rattle.std.proofs.Common.{◌≡◌, ℕ, zero, suc, ◌+◌, ◌-◌, ◌<◌, ◌≤◌, Bool, true, false, not, ◌&&◌, ◌||◌, List, [], ◌∷◌, ◌++◌, map, length, get_or, Some, None, Ok, Err, Result, unwrap_or, is_some, sym, refl, ap, ◌∙◌, subst, arith}
 use Rattle.std.specs.Str.{bytes_eq}
 use Rattle.std.specs.List.{AllByRecursion as All}
 use Rattle.std.proofs.lemmas.Bool.{cond_both, and_parts, not-false, true≢false, false≢true}
@@ -9,7 +9,9 @@ use Rattle.venue.specs.declared.rows.Request.{Request}
 use Rattle.venue.specs.declared.rows.Acceptance.{Acceptance}
 use Rattle.venue.specs.Days.{Day, no_request, numbered, request_of, is_open, is_name, owns, place_from, place_of}
 use Rattle.venue.specs.Calls.{Call, Call.enter, Call.offer, Call.pull, Call.cancel, Call.accept, Call.file, Call.post, Call.move_clock, Call.ask_price, Call.view, Call.book, Call.close, causes}
-use Rattle.venue.specs.Model.{Opening, open_day, judge, apply}
+use Rattle.records.specs.declared.causes.Cause.{Cause}
+use Rattle.records.specs.declared.causes.Refusal.{Refusal}
+use Rattle.venue.specs.Model.{Opening, Reply, open_day, judge, answer_by, apply, next, next_by, reply}
 use Rattle.venue.specs.Places.{Placed}
 use Rattle.venue.proofs.Counting.{length_filed}
 use Rattle.venue.proofs.Dealing.{all_append}
@@ -120,3 +122,15 @@ placed_after d c p v =
       λ i k. let here = from_all m (apply d c).requests rows i k in omega arith,
       λ z. let none : m ≡ 0 = sym many ∙ z in same_trades d c p v none ∙ p.1 none,
     )
+
+-- and so does every call
+pub placed_next : (d : Day) (c : Call) → Placed d → Placed (next d c)
+placed_next d c p = by_verdict (judge d c) refl
+  where
+    by_reply : (r : Result Reply Refusal) → Placed (apply d c) → Placed (next_by d c r)
+    by_reply (Ok r) q = q
+    by_reply (Err e) q = p
+
+    by_verdict : (v : Result Unit Cause) → judge d c ≡ v → Placed (next_by d c (answer_by d c v))
+    by_verdict (Ok x) g = by_reply (reply d c) (placed_after d c p g)
+    by_verdict (Err e) g = p
