@@ -3,6 +3,7 @@
 use Rattle.std.specs.Prelude.{◌≡◌, ℕ, Bool, true, false, List, ◌++◌}
 use Rattle.prices.specs.declared.rows.Row.{Row}
 use Rattle.prices.specs.Rows.{Screen}
+use Rattle.prices.specs.declared.sources.Source.{Ghosts}
 use Rattle.tables.specs.Tabled.{setting_of}
 use Rattle.venue.specs.Calls.{Call}
 use Rattle.venue.specs.Days.{Day}
@@ -14,10 +15,10 @@ use Rattle.transcript.specs.declared.runs.Run.TheVariants as run
 use Rattle.transcript.specs.Runs.{State, State.setting, State.running}
 use Rattle.transcript.specs.Said.{line}
 
-abbrev pub setup_state : {S : Type 0} → (S → List Row) → (S → Screen) → Setup S → State
+abbrev pub setup_state : {S : Type 0} {g : Ghosts S} → (S → List Row) → (S → Screen) → Setup S g → State
 setup_state rows screen s = setting (setting_of s.tables) (rows s.source) (screen s.source)
 
-abbrev pub state_of : {S : Type 0} → (S → List Row) → (S → Screen) → Run S → State
+abbrev pub state_of : {S : Type 0} {g : Ghosts S} → (S → List Row) → (S → Screen) → Run S g → State
 state_of rows screen (run.Setting s) = setup_state rows screen s
 state_of rows screen (run.Trading d) = running (trading_day rows screen d)
 state_of rows screen (run.Closed d) = running (closed_day rows screen d)

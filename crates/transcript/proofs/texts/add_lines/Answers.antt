@@ -3,7 +3,7 @@ use Rattle.transcript.specs.States.{state_of}
 use Rattle.transcript.specs.Texts.{text}
 use Rattle.transcript.proofs.Onward.{text_done, text_spent, turned_last, turned_more, stepped_end, stepped_next, stepped_move}
 use Rattle.transcript.proofs.texts.add_lines.Goals as goal
-use Rattle.transcript.proofs.texts.add_lines.Goals.{in-Next, in-Move+in_ok-then+in-Some}
+use Rattle.transcript.proofs.texts.add_lines.Goals.{in-Next, in-Move+in_ok-then-in-Move+in-Some}
 
 pub returns-then-at-bytes : goal.returns-then-at-bytes
 returns-then-at-bytes g c =
@@ -31,7 +31,7 @@ returns-in-None g c =
     let state = state_of g.S.Source.rows g.S.Source.screen in
     let room = length l.buffer in
     turned_last room s l.at (l.turn + 1) (length s) l.turn (state l.run) _ _ _ _ c.if-at-bytes.false c.loop-turn-test.true
-    (stepped_move room s l.at (l.turn + 1) (state l.run) _ _ _ _ c.in_ok-place.ensures _ _ _ _ c.add_turn.auto.buffer c.in-Move.is c.in_ok-then.ensures)
+    (stepped_move room s l.at (l.turn + 1) (state l.run) _ _ _ _ c.in_ok-place.ensures _ _ _ _ c.add_turn.auto.buffer c.in-Move.is c.in_ok-then-in-Move.ensures)
     c.in-None.is
     ∙ l.invariant
 
@@ -52,12 +52,12 @@ loop-turn-preserved g c =
           ∙ ap (λ r. vec_items c.add_turn.new.text ++ text room fuel s w.in-Next.place count (state r)) w.run-is
           ∙ turned_more room s l.at (l.turn + 1) (length s) l.turn (state l.run) _ _ _ _ c.if-at-bytes.false c.loop-turn-test.true (stepped_next room s l.at (l.turn + 1) (state l.run) _ _ _ _ c.in_ok-place.ensures _ w.in-Next.is) _ refl
           ∙ l.invariant
-      | in-Move+in_ok-then+in-Some w ↦
+      | in-Move+in_ok-then-in-Move+in-Some w ↦
           ap (λ t. vec_items t ++ text (length m.buffer) fuel s m.at count (state m.run)) w.text-is
           ∙ ap (λ n. vec_items w.add_move.new.text ++ text n fuel s m.at count (state m.run)) (ap length w.buffer-is ∙ w.add_move.auto.buffer ∙ c.add_turn.auto.buffer)
           ∙ ap (λ p. vec_items w.add_move.new.text ++ text room fuel s p count (state m.run)) w.at-is
           ∙ ap (λ r. vec_items w.add_move.new.text ++ text room fuel s w.in-Some.place count (state r)) w.run-is
-          ∙ turned_more room s l.at (l.turn + 1) (length s) l.turn (state l.run) _ _ _ _ c.if-at-bytes.false c.loop-turn-test.true (stepped_move room s l.at (l.turn + 1) (state l.run) _ _ _ _ c.in_ok-place.ensures _ _ _ _ c.add_turn.auto.buffer w.in-Move.is w.in_ok-then.ensures) _ w.in-Some.is
+          ∙ turned_more room s l.at (l.turn + 1) (length s) l.turn (state l.run) _ _ _ _ c.if-at-bytes.false c.loop-turn-test.true (stepped_move room s l.at (l.turn + 1) (state l.run) _ _ _ _ c.in_ok-place.ensures _ _ _ _ c.add_turn.auto.buffer w.in-Move.is w.in_ok-then-in-Move.ensures) _ w.in-Some.is
           ∙ l.invariant
     ]
 
