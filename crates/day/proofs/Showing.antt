@@ -1,5 +1,5 @@
 -- A page that was written is the model's answer. Assumes nothing.
-use Rattle.std.proofs.Common.{◌≡◌, ℕ, ◌≤◌, Bool, true, false, cond, List, [], ◌∷◌, ◌++◌, length, take, drop, IsErrAnd, None, Ok, Err, Result, sym, refl, ap, ◌∙◌, subst, arith}
+use Rattle.std.proofs.Common.{◌≡◌, ℕ, Bool, true, false, cond, List, [], ◌∷◌, ◌++◌, length, take, drop, IsErrAnd, None, Ok, Err, Result, sym, ap, ◌∙◌, subst, arith}
 use Rattle.std.proofs.lemmas.Result.{err_from_is_err_and}
 use Rattle.records.specs.declared.causes.Cause.{Cause}
 use Rattle.records.specs.declared.causes.Refusal.{Refusal}
@@ -8,7 +8,7 @@ use Rattle.records.proofs.Unless.{verdict, granted, grants}
 use Rattle.pages.specs.Paged.{Paged}
 use Rattle.venue.specs.Days.{Day}
 use Rattle.venue.specs.Calls.{Call, causes}
-use Rattle.venue.specs.Model.{Reply, judge, a_page, answer_by, apply, next_by, reply}
+use Rattle.venue.specs.Model.{judge, a_page, answer_by, apply, next_by, reply}
 use Rattle.day.specs.Told.{Shows}
 
 -- what is refused is refused whatever would have been answered

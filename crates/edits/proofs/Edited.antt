@@ -1,7 +1,7 @@
 -- The row with a number, edited. Assumes nothing.
 use Rattle.std.proofs.Common.{◌≡◌, ℕ, zero, suc, ◌+◌, ◌-◌, ◌<◌, ◌≤◌, ◌⊎◌, List, length, get_or, take, set, Some, None, Option, sym, refl, ap, ◌∙◌, inl, inr, ⊎_elim, arith}
 use lib.Seq.{take-set-lt}
-use Rattle.std.proofs.lemmas.List.{get_or-take, take-set-le, set_past, length-take-le, length-take}
+use Rattle.std.proofs.lemmas.List.{get_or-take, take-set-le, set_past, length-take-le}
 use Rattle.std.proofs.lemmas.Bool.{cases_lt}
 use Rattle.venue.specs.declared.rows.Quote.{Quote}
 use Rattle.venue.specs.declared.rows.Trade.{Trade}

@@ -1,5 +1,5 @@
 -- Days whose tables are equal. Assumes nothing.
-use Rattle.std.proofs.Common.{◌≡◌, ℕ, List, [], ◌∷◌, ◌++◌, sym, refl, ap, ◌∙◌}
+use Rattle.std.proofs.Common.{◌≡◌, ℕ, List}
 use Rattle.venue.specs.declared.rows.Quote.{Quote}
 use Rattle.venue.specs.declared.rows.Request.{Request}
 use Rattle.venue.specs.declared.rows.Trade.{Trade}

@@ -1,5 +1,5 @@
 -- A stranger in a set, found at one number, is found by all that look further. Assumes nothing.
-use Rattle.std.proofs.Common.{◌≡◌, ℕ, zero, suc, ◌+◌, ◌-◌, ◌<◌, ◌≤◌, Bool, true, false, not, ◌&&◌, ◌||◌, sym, refl, ap, ◌∙◌, subst, suc-add, zero-add, add-one, arith}
+use Rattle.std.proofs.Common.{◌≡◌, ℕ, zero, suc, ◌+◌, ◌-◌, ◌<◌, Bool, true, false, not, ◌&&◌, sym, ap, ◌∙◌, suc-add, zero-add, add-one, arith}
 use Rattle.std.proofs.lemmas.Bool.{or_left, or_right, or_from}
 use Rattle.venue.specs.Days.{Day, bit, user_of}
 use Rattle.venue.specs.Calls.{has_stranger}

@@ -1,12 +1,12 @@
 -- A record that was read is written back as the same bytes, into any buffer that has room for the longest. Assumes nothing.
-use Rattle.std.proofs.Common.{◌≡◌, ℕ, ◌+◌, ◌-◌, ◌≤◌, true, List, [], ◌∷◌, ◌++◌, length, take, drop, Ok, Err, sym, refl, ap, ◌∙◌, arith, length-drop, length-take}
+use Rattle.std.proofs.Common.{◌≡◌, ℕ, ◌+◌, ◌-◌, ◌≤◌, true, List, length, take, drop, Ok, refl, ap, ◌∙◌, arith, length-drop}
 use Rattle.std.specs.Str.{bytes_eq}
 use Rattle.std.proofs.lemmas.Slice.Eq.{bytes_eq-Decides}
 use Rattle.std.proofs.lemmas.List.{length-take-le, take_at}
 use Rattle.records.specs.declared.parts.Record.{Record}
 use Rattle.records.specs.Reading.{read_answer, read_record}
 use Rattle.records.specs.Trips.{Bytes}
-use Rattle.records.specs.Writing.{over, write_answer, write_buffer}
+use Rattle.records.specs.Writing.{over, write_buffer}
 use Rattle.records.proofs.Back.{read_write}
 use Rattle.records.proofs.Ends.{read_ends}
 use Rattle.records.proofs.Over.{over_start}

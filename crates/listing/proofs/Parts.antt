@@ -1,5 +1,5 @@
 -- One part more of a text. Assumes nothing.
-use Rattle.std.proofs.Common.{◌≡◌, ℕ, suc, ◌+◌, ◌-◌, ◌/◌, ◌<◌, ◌≤◌, List, [], ◌++◌, codes, decimal, sym, ap, ◌∙◌, append_assoc, append-nil, arith}
+use Rattle.std.proofs.Common.{◌≡◌, ℕ, suc, ◌+◌, ◌-◌, ◌/◌, ◌<◌, ◌≤◌, List, ◌++◌, codes, decimal, sym, ap, ◌∙◌, append_assoc, append-nil, arith}
 use Rattle.records.specs.Bytes.{odd}
 use Rattle.listing.specs.Lines.{only, users_from}
 

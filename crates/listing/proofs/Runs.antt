@@ -1,11 +1,10 @@
 -- The text of a file, one record at a time. Assumes nothing.
-use Rattle.std.proofs.Common.{◌≡◌, ℕ, zero, suc, ◌+◌, ◌-◌, ◌<◌, ◌≤◌, Bool, true, false, cond, leb, List, [], ◌∷◌, ◌++◌, length, is_ok, Some, None, Ok, Err, Option, Result, sym, refl, ap, ◌∙◌, append_assoc, arith}
-use Rattle.std.specs.Result.{result_ok}
+use Rattle.std.proofs.Common.{◌≡◌, ℕ, zero, suc, ◌+◌, ◌-◌, ◌<◌, ◌≤◌, Bool, true, false, cond, leb, List, ◌++◌, length, Some, None, Ok, Err, Option, Result, sym, refl, ap, ◌∙◌, append_assoc, arith}
 use Rattle.std.proofs.lemmas.Bool.{cond-true, cond-false, le-leb, lt-leb}
 use Rattle.records.specs.declared.causes.Refusal.{Refusal}
 use Rattle.records.specs.Reading.{read_answer, skip_answer}
 use Rattle.records.proofs.Ends.{read_ends, skip_ends}
-use Rattle.listing.specs.Listing.{line_at, next_by, next_at, is_read, totals, then, text, Turned, listing, Enough}
+use Rattle.listing.specs.Listing.{line_at, next_by, next_at, is_read, totals, then, text, Turned, Enough}
 
 -- nothing is left
 pub text_done : (n : ℕ) (s : List ℕ) (at good bad : ℕ) → length s ≤ at → text n s at good bad ≡ totals true good bad (length s)

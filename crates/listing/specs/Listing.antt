@@ -1,6 +1,6 @@
 -- The text of a file of records: a line for each, until the bytes end or a record's end cannot be told, and the totals.
 -- Assumes nothing.
-use Rattle.std.specs.Prelude.{◌≡◌, ℕ, zero, suc, ◌+◌, ◌≤◌, Bool, true, false, cond, List, [], ◌∷◌, ◌++◌, length, take, is_ok, Some, None, Ok, Err, codes, decimal, Option, Result, nat_le, slice_index}
+use Rattle.std.specs.Prelude.{◌≡◌, ℕ, zero, suc, ◌+◌, ◌≤◌, Bool, true, false, cond, List, ◌++◌, length, take, is_ok, Some, None, Ok, Err, codes, decimal, Option, Result, nat_le, slice_index}
 use Rattle.std.specs.Result.{result_ok}
 use Rattle.std.specs.Str.{bytes_eq}
 use Rattle.records.specs.declared.causes.Refusal.{Refusal}

@@ -1,6 +1,6 @@
 -- Tables whose requests stand on symbols.
 -- Assumes nothing.
-use Rattle.std.specs.Prelude.{ℕ, ◌<◌}
+use Rattle.std.specs.Prelude.{◌<◌}
 use Rattle.venue.specs.Places.{Placed}
 use Rattle.tables.specs.declared.inner.Tables.{Tables}
 use Rattle.tables.specs.Tabled.{bare_day}

@@ -1,8 +1,7 @@
 -- Rounded mids, and the worked amounts. Assumes nothing.
 use Rattle.std.proofs.Common.{◌≡◌, ℕ, ◌+◌, ◌-◌, ◌*◌, ◌/◌, ◌<◌, ◌≤◌, refl, ap, ◌∙◌, mul-le-mul_right, div-lt_iff_lt-mul, add-mul, one-mul, le-div_iff_mul-le, div-mul-le_self, mul_left_comm, arith}
-use Rattle.prices.specs.declared.rows.Ticks.{Ticks}
-use Rattle.prices.specs.Prices.{tick_at, round_up, round_down, mid}
-use Rattle.prices.specs.Rounding.{Multiple, Least, Greatest, Rounds, Amounts}
+use Rattle.prices.specs.Prices.{tick_at, round_up, round_down}
+use Rattle.prices.specs.Rounding.{Least, Greatest, Rounds, Amounts}
 
 -- twice a multiple of k is a multiple of twice k
 twice : (j k : ℕ) → 2 * (j * k) ≡ j * (2 * k)

@@ -1,15 +1,14 @@
 -- What rounding a mid means, and the worked amounts.
 -- Assumes nothing.
-use Rattle.std.specs.Prelude.{◌≡◌, ℕ, ◌+◌, ◌*◌, ◌<◌, ◌≤◌, List, [], Ok, Err, Result}
+use Rattle.std.specs.Prelude.{◌≡◌, ℕ, ◌+◌, ◌*◌, ◌<◌, ◌≤◌, Ok, Err, Result}
 use Rattle.records.specs.declared.causes.Cause.TheVariants.{OutOfPrice, TooOld}
 use Rattle.records.specs.declared.causes.Refusal.{Refusal}
-use Rattle.records.specs.declared.parts.Price.{Price}
 use Rattle.records.specs.Causes.{refusal}
 use Rattle.prices.specs.declared.rows.Leg.{Leg}
 use Rattle.prices.specs.declared.rows.Leg.TheVariants.{Selling, Buying}
 use Rattle.prices.specs.declared.rows.Row.TheVariants.{Posted}
 use Rattle.prices.specs.declared.rows.Ticks.{Ticks}
-use Rattle.prices.specs.Rows.{Reading, bare, fresh, uncrossed}
+use Rattle.prices.specs.Rows.{Reading, bare, fresh}
 use Rattle.prices.specs.Prices.{tick_at, mid, price_of}
 
 abbrev pub Multiple : ℕ → ℕ → Type 0

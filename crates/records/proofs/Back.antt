@@ -1,28 +1,26 @@
 -- What was written is read, and what was read is written. Assumes nothing.
-use Rattle.std.proofs.Common.{◌≡◌, ℕ, ◌+◌, ◌-◌, ◌*◌, ◌/◌, ◌%◌, ◌<◌, ◌≤◌, Bool, true, false, cond, ◌&&◌, ◌||◌, ltb, List, [], ◌∷◌, ◌++◌, length, get_or, take, drop, Some, None, Ok, Err, Option, Result, sym, refl, ap, ◌∙◌, subst, arith, length-append, length-drop, take-add, ltb-false, le-ltb}
+use Rattle.std.proofs.Common.{◌≡◌, ℕ, ◌+◌, ◌-◌, ◌*◌, ◌/◌, ◌%◌, ◌≤◌, Bool, true, false, cond, ◌&&◌, ◌||◌, ltb, List, [], ◌∷◌, ◌++◌, length, get_or, take, drop, Some, None, Ok, Err, Option, Result, sym, refl, ap, ◌∙◌, subst, arith, length-append, length-drop, take-add, ltb-false, le-ltb}
 use Rattle.std.specs.List.{flat_map, AllByRecursion as All}
 use Rattle.std.proofs.lemmas.List.{get_or-drop}
-use Rattle.std.proofs.lemmas.Bool.{cond-true, cond-false, or_parts, or_from, and_right, lt-ltb}
+use Rattle.std.proofs.lemmas.Bool.{cond-true, or_parts, or_from, and_right, lt-ltb}
 use Rattle.records.specs.declared.causes.Cause.{Cause}
-use Rattle.records.specs.declared.causes.Cause.TheVariants.{UnknownKind, CutShort, ForeignBit, FieldAbsent, WrongLetter, BufferShort}
-use Rattle.records.specs.declared.causes.Refusal.{Refusal}
+use Rattle.records.specs.declared.causes.Cause.TheVariants.{UnknownKind, CutShort, ForeignBit, FieldAbsent, WrongLetter}
 use Rattle.records.specs.declared.parts.Field.{Field}
 use Rattle.records.specs.declared.parts.Field.TheVariants as field
 use Rattle.records.specs.declared.parts.Kind.{Kind}
 use Rattle.records.specs.declared.parts.Kind.TheVariants as kind
 use Rattle.records.specs.declared.parts.Record.{Record}
 use Rattle.records.specs.declared.parts.Slot.{Slot}
-use Rattle.records.specs.Causes.{unless}
-use Rattle.records.specs.Layout.{field_of, kind_of, layout, shape}
-use Rattle.records.specs.Fields.{value, kept, blank, same}
+use Rattle.records.specs.Layout.{field_of, kind_of, layout}
+use Rattle.records.specs.Fields.{value, blank, same}
 use Rattle.records.specs.Bytes.{field_bytes, odd, standing, size, foreign, wrong}
-use Rattle.records.specs.Reading.{fill, slots_of, absent_of, no_kind, kind_in, map_in, fields_in, record_in, length_in, parse, answer_of, record_of, read_answer, read_record}
+use Rattle.records.specs.Reading.{fill, slots_of, absent_of, no_kind, kind_in, map_in, fields_in, record_in, length_in, parse, answer_of, record_of, read_record}
 use Rattle.records.specs.Writing.{encode, fields_of, length_of, over, judge_write, placed, buffer_of, write_answer, write_buffer}
 use Rattle.records.specs.Trips.{Bytes, Typed, among, settled, WriteRead, ReadWrite}
 use Rattle.records.proofs.Filled.{fill_map, filled, wrong_like, all_among, Apart, packed}
 use Rattle.records.proofs.Named.{same_record, value_kept}
 use Rattle.records.proofs.Over.{drop_over}
-use Rattle.records.proofs.Records.{Granted, write_granted, causes}
+use Rattle.records.proofs.Records.{write_granted, causes}
 use Rattle.records.proofs.Unless.{granted, grants}
 use Rattle.records.proofs.Widths.{joined_size}
 

@@ -1,18 +1,17 @@
 -- The fields of a record that bytes were filled into. Assumes nothing.
-use Rattle.std.proofs.Common.{◌≡◌, ℕ, ◌+◌, ◌-◌, ◌/◌, ◌<◌, ◌≤◌, Bool, true, false, cond, not, ◌||◌, List, [], ◌∷◌, ◌++◌, length, get_or, take, drop, sym, refl, ap, ◌∙◌, subst, ⊎_elim, append_assoc, arith, length-drop, take-add}
+use Rattle.std.proofs.Common.{◌≡◌, ℕ, ◌+◌, ◌≤◌, Bool, true, false, cond, not, ◌||◌, List, [], ◌∷◌, ◌++◌, length, take, drop, sym, refl, ap, ◌∙◌, subst, append_assoc, arith, length-drop, take-add}
 use Rattle.std.specs.List.{flat_map, AllByRecursion as All}
 use Rattle.std.proofs.lemmas.List.{drop_at, get_or-drop}
 use Rattle.std.proofs.lemmas.Bool.{cond-true, cond-false, not-false, or_parts, or_left, or_right}
 use Rattle.records.specs.declared.parts.Field.{Field}
 use Rattle.records.specs.declared.parts.Field.TheVariants as field
 use Rattle.records.specs.declared.parts.Record.{Record}
-use Rattle.records.specs.declared.parts.Slot.{Slot}
 use Rattle.records.specs.declared.parts.Value.{Value}
 use Rattle.records.specs.Layout.{shape}
 use Rattle.records.specs.Fields.{value, decoded, kept, same}
-use Rattle.records.specs.Bytes.{width, field_bytes, value_bytes, odd, standing, size, fits, wrong}
+use Rattle.records.specs.Bytes.{width, field_bytes, value_bytes, size, fits, wrong}
 use Rattle.records.specs.Reading.{fill}
-use Rattle.records.specs.Trips.{Bytes, Sized, Typed, among}
+use Rattle.records.specs.Trips.{Bytes, Typed, among}
 use Rattle.records.proofs.Named.{same_is, same_self, value_kept}
 use Rattle.records.proofs.Spelled.{field_back, bytes_back}
 use Rattle.records.proofs.Widths.{field_width}

@@ -1,7 +1,7 @@
 -- What is read at a place, layer by layer: from a slice's parts to the whole. Assumes nothing.
-use Rattle.std.proofs.Common.{◌≡◌, ℕ, ◌+◌, ◌-◌, ◌/◌, ◌<◌, ◌≤◌, Bool, true, false, cond, not, ◌&&◌, ◌||◌, ltb, List, [], ◌∷◌, length, get_or, take, drop, Some, None, Ok, Err, Option, Result, sym, refl, ap, ◌∙◌, arith, length-drop, take_all}
-use Rattle.std.proofs.lemmas.List.{drop-drop, drop_all}
-use Rattle.std.proofs.lemmas.Bool.{cond-true, cond-false, and_from, and_right, lt-ltb}
+use Rattle.std.proofs.Common.{◌≡◌, ℕ, ◌+◌, ◌-◌, ◌/◌, ◌<◌, ◌≤◌, Bool, true, false, cond, ◌&&◌, ltb, List, [], ◌∷◌, length, get_or, take, drop, Some, Ok, Err, Option, Result, sym, refl, ap, ◌∙◌, arith, length-drop, take_all}
+use Rattle.std.proofs.lemmas.List.{drop-drop}
+use Rattle.std.proofs.lemmas.Bool.{cond-false, and_right}
 use Rattle.std.proofs.lemmas.Bool.Decides.{nat_tests}
 use Rattle.records.specs.declared.causes.Cause.{Cause}
 use Rattle.records.specs.declared.causes.Cause.TheVariants.{UnknownKind, CutShort, ForeignBit, FieldAbsent, WrongLetter}
@@ -10,7 +10,7 @@ use Rattle.records.specs.declared.parts.Field.{Field}
 use Rattle.records.specs.declared.parts.Kind.{Kind}
 use Rattle.records.specs.declared.parts.Record.{Record}
 use Rattle.records.specs.declared.parts.Slot.{Slot}
-use Rattle.records.specs.Layout.{field_of, kind_of, layout, shape}
+use Rattle.records.specs.Layout.{field_of, layout, shape}
 use Rattle.records.specs.Fields.{blank, decoded, kept, same}
 use Rattle.records.specs.Bytes.{width, odd, standing, size, foreign, absent, wrong, taken}
 use Rattle.records.specs.Reading.{fill, slots_of, absent_of, no_kind, parse, parse_fields, kind_in, map_in}

@@ -4,7 +4,6 @@ use Rattle.records.specs.declared.parts.Field.{Field}
 use Rattle.records.specs.declared.parts.Field.TheVariants as field
 use Rattle.records.specs.declared.parts.Price.{Price}
 use Rattle.records.specs.declared.parts.Record.{Record}
-use Rattle.records.specs.declared.parts.Value.{Value}
 use Rattle.records.specs.declared.parts.Value.TheVariants.{Number, Letter, Quoted, Name, Letters}
 use Rattle.records.specs.Fields.{value, kept, index, same}
 

@@ -1,8 +1,8 @@
 -- Bytes written over a buffer.
 -- Assumes nothing.
-use Rattle.std.proofs.Common.{◌≡◌, ℕ, suc, ◌+◌, ◌-◌, ◌≤◌, List, [], ◌∷◌, ◌++◌, length, take, drop, set, sym, refl, ap, ◌∙◌, subst, append_assoc, append-nil, add-zero, arith}
+use Rattle.std.proofs.Common.{◌≡◌, ℕ, suc, ◌+◌, ◌-◌, ◌≤◌, List, [], ◌∷◌, ◌++◌, length, take, drop, set, sym, refl, ap, ◌∙◌, append_assoc, append-nil, add-zero, arith}
 use borrow.Rule.Slice.PartMut.{put_mid}
-use Rattle.std.proofs.lemmas.List.{length-append, length_push, length-take-le, length-drop, set_at, take-append-drop, drop_at}
+use Rattle.std.proofs.lemmas.List.{length_push, length-take-le, length-drop, set_at, take-append-drop, drop_at}
 use Rattle.records.specs.Writing.{over}
 
 pub over_append : (out : List ℕ) (at : ℕ) (xs ys : List ℕ) → over out at (xs ++ ys) ≡ over (over out at xs) (at + length xs) ys

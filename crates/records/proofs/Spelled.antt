@@ -1,5 +1,5 @@
 -- The bytes of one field, there and back. Assumes nothing.
-use Rattle.std.proofs.Common.{◌≡◌, ℕ, ◌+◌, ◌*◌, ◌/◌, ◌%◌, ◌<◌, ◌≤◌, Bool, true, false, List, [], ◌∷◌, ◌++◌, length, get_or, take, sym, refl, ap, ◌∙◌, arith}
+use Rattle.std.proofs.Common.{◌≡◌, ℕ, ◌+◌, ◌*◌, ◌/◌, ◌%◌, ◌<◌, ◌≤◌, true, List, [], ◌∷◌, ◌++◌, length, take, sym, refl, ap, ◌∙◌, arith}
 use native.Mathlib.Nat.{div-div-eq-div-mul}
 use Rattle.std.proofs.lemmas.Bool.{and_parts}
 use Rattle.std.proofs.lemmas.Bool.Decides.{nat_tests}
@@ -9,7 +9,6 @@ use Rattle.records.specs.declared.parts.Price.{Price}
 use Rattle.records.specs.declared.parts.Record.{Record}
 use Rattle.records.specs.declared.parts.Shape.{Shape}
 use Rattle.records.specs.declared.parts.Shape.TheVariants as form
-use Rattle.records.specs.declared.parts.Value.{Value}
 use Rattle.records.specs.declared.parts.Value.TheVariants.{Number, Letter, Quoted, Name, Letters}
 use Rattle.records.specs.Layout.{shape}
 use Rattle.records.specs.Fields.{value, byte, two, four, eight, text, mark, price, decoded}

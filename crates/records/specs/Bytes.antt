@@ -1,20 +1,18 @@
 -- How the fields of a record stand as bytes: its kind letter, its bit map, lower byte first, and then the fields whose
 -- bits stand, in bit order.
 -- Assumes nothing.
-use Rattle.std.specs.Prelude.{ℕ, ◌+◌, ◌*◌, ◌/◌, ◌%◌, ◌^◌, Bool, true, false, cond, not, ◌&&◌, ◌||◌, List, [], ◌∷◌, ◌++◌, length, take, Some, None, codes, Option, ◌==◌, nat_le, slice_index}
-use Rattle.std.specs.List.{flat_map}
+use Rattle.std.specs.Prelude.{ℕ, ◌+◌, ◌/◌, ◌%◌, ◌^◌, Bool, true, false, cond, not, ◌&&◌, ◌||◌, List, [], ◌∷◌, length, take, codes, ◌==◌, nat_le, slice_index}
 use Rattle.records.specs.declared.parts.Record.{Record}
 use Rattle.records.specs.declared.parts.Field.{Field}
 use Rattle.records.specs.declared.parts.Slot.{Slot}
 use Rattle.records.specs.declared.parts.Kind.{Kind}
 use Rattle.records.specs.declared.parts.Kind.TheVariants as kind
-use Rattle.records.specs.declared.parts.Price.{Price}
 use Rattle.records.specs.declared.parts.Value.{Value}
 use Rattle.records.specs.declared.parts.Value.TheVariants.{Number, Letter, Quoted, Name, Letters}
 use Rattle.records.specs.declared.parts.Shape.{Shape}
 use Rattle.records.specs.declared.parts.Shape.TheVariants.{Byte, Two, Four, Eight, Users, Set, YesNo, BuySell, KeepCancel, Reference, Priced, Text, Mark}
-use Rattle.records.specs.Layout.{field_of, kind_of, layout, may_lack, shape}
-use Rattle.records.specs.Fields.{value, same}
+use Rattle.records.specs.Layout.{field_of, layout, may_lack, shape}
+use Rattle.records.specs.Fields.{value}
 
 -- how many bytes a field takes
 abbrev pub width : Shape → ℕ

@@ -1,6 +1,6 @@
 -- What each field of a record holds, the record that bytes begin with, and the fields of one record among those of another.
 -- Assumes nothing.
-use Rattle.std.specs.Prelude.{ℕ, ◌+◌, ◌*◌, Bool, true, false, cond, List, [], ◌∷◌, ◌==◌, slice_index}
+use Rattle.std.specs.Prelude.{ℕ, ◌+◌, ◌*◌, Bool, cond, List, [], ◌∷◌, ◌==◌, slice_index}
 use Rattle.records.specs.declared.parts.Price.{Price}
 use Rattle.records.specs.declared.parts.Record.{Record}
 use Rattle.records.specs.declared.parts.Field.{Field}

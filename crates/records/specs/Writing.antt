@@ -1,12 +1,11 @@
 -- Writing a record: its bytes, the buffer that holds them then, or why it is refused.
 -- Assumes nothing.
-use Rattle.std.specs.Prelude.{ℕ, ◌+◌, ◌/◌, ◌%◌, Bool, cond, ◌||◌, List, [], ◌∷◌, ◌++◌, length, Some, None, Ok, Err, Option, Result, ◌==◌, nat_lt, slice_set}
+use Rattle.std.specs.Prelude.{ℕ, ◌+◌, ◌/◌, ◌%◌, Bool, cond, ◌||◌, List, [], ◌∷◌, length, Some, None, Ok, Err, Option, Result, ◌==◌, nat_lt, slice_set}
 use Rattle.std.specs.List.{flat_map}
 use Rattle.records.specs.declared.causes.Cause.{Cause}
 use Rattle.records.specs.declared.causes.Cause.TheVariants.{UnknownKind, ForeignBit, FieldAbsent, WrongLetter, BufferShort}
 use Rattle.records.specs.declared.causes.Refusal.{Refusal}
 use Rattle.records.specs.declared.parts.Field.{Field}
-use Rattle.records.specs.declared.parts.Kind.{Kind}
 use Rattle.records.specs.declared.parts.Record.{Record}
 use Rattle.records.specs.Causes.{layer, refusal, unless}
 use Rattle.records.specs.Layout.{kind_of}

@@ -1,17 +1,15 @@
 -- Numbers count up. Assumes nothing.
-use Rattle.std.proofs.Common.{◌≡◌, ℕ, zero, suc, ◌+◌, ◌-◌, ◌≤◌, Bool, true, false, cond, List, [], ◌∷◌, ◌++◌, map, length, Some, None, Ok, Err, Option, Result, unwrap_or, sym, refl, ap, ◌∙◌, subst, append_assoc, append-nil, add-zero, zero-add, add-one, arith, length-append}
-use Rattle.records.specs.declared.causes.Cause.{Cause}
+use Rattle.std.proofs.Common.{◌≡◌, ℕ, zero, suc, ◌+◌, ◌-◌, Bool, true, false, cond, List, [], ◌∷◌, ◌++◌, map, length, Some, None, Ok, Err, Option, Result, unwrap_or, sym, refl, ap, ◌∙◌, append_assoc, append-nil, add-zero, arith, length-append}
 use Rattle.records.specs.declared.causes.Refusal.{Refusal}
 use Rattle.venue.specs.declared.rows.Quote.{Quote}
 use Rattle.venue.specs.declared.rows.Trade.{Trade}
-use Rattle.venue.specs.declared.rows.Report.{Report}
 use Rattle.venue.specs.Days.{Day, place_of}
-use Rattle.venue.specs.Trading.{renumbered, price_now}
+use Rattle.venue.specs.Trading.{price_now}
 use Rattle.venue.specs.Pages.{numbers}
 use Rattle.venue.specs.Calls.{Call, Call.enter, Call.offer, Call.pull, Call.cancel, Call.accept, Call.file, Call.post, Call.move_clock, Call.ask_price, Call.view, Call.book, Call.close, fills_of}
-use Rattle.venue.specs.Model.{Reply, judge, reply, answer, apply, next_by, next, after, ended_if, settled_quotes, is_over, without_old, without_quote, filed, a_price_of, entered, offered, open_day, leg_asked}
+use Rattle.venue.specs.Model.{Reply, judge, reply, answer, apply, next_by, next, after, settled_quotes, is_over, without_old, filed, entered, offered, open_day, leg_asked}
 use Rattle.venue.proofs.Replies.{replied, reply_is, priced_only, length_renumbered}
-use Rattle.venue.specs.Numbers.{range, request_given, quote_given, trades_owed, trades_given, given_by, all_given, Counted, NumbersCountUp}
+use Rattle.venue.specs.Numbers.{range, request_given, quote_given, trades_owed, trades_given, given_by, all_given, NumbersCountUp}
 
 -- the numbers up to n and then those of a range of m
 numbers_on : (n m : ℕ) → numbers n ++ range (n + 1) m ≡ numbers (n + m)

@@ -1,6 +1,6 @@
 -- What a call does to the rows of requests and quotes: it adds one at the end or none, and of the others it changes only
 -- how they end. Said for any view of a row that does not look at its end. Assumes nothing.
-use Rattle.std.proofs.Common.{◌≡◌, ℕ, zero, suc, Bool, true, false, cond, not, ◌&&◌, ◌||◌, eqb, leb, List, [], ◌∷◌, ◌++◌, map, get_or, set, Some, None, Option, sym, refl, ap, ◌∙◌, append-nil}
+use Rattle.std.proofs.Common.{◌≡◌, ℕ, zero, suc, Bool, true, false, cond, ◌&&◌, ◌||◌, eqb, leb, List, [], ◌∷◌, ◌++◌, map, get_or, set, Some, None, Option, sym, refl, ap, ◌∙◌, append-nil}
 use Rattle.venue.specs.declared.rows.Life.{Life}
 use Rattle.venue.specs.declared.rows.Life.TheVariants as life
 use Rattle.venue.specs.declared.rows.Request.{Request}

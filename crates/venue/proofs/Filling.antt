@@ -1,10 +1,10 @@
 -- The fills of an acceptance, turn by turn. Assumes nothing.
-use Rattle.std.proofs.Common.{◌≡◌, ℕ, zero, suc, ◌+◌, ◌-◌, ◌<◌, ◌≤◌, min, Bool, true, false, cond, ◌&&◌, leb, ◌⊎◌, List, [], ◌∷◌, ◌++◌, get_or, set, fold, sym, refl, ap, ◌∙◌, subst, inl, inr, ⊎_elim, append_assoc, append-nil, arith}
-use Rattle.std.proofs.lemmas.Bool.{cases_Bool, cond-true, cond-false, and_parts, and_cases, leb-true, leb-false}
+use Rattle.std.proofs.Common.{◌≡◌, ℕ, zero, suc, ◌+◌, ◌-◌, ◌<◌, ◌≤◌, min, Bool, true, false, cond, leb, ◌⊎◌, List, [], ◌∷◌, ◌++◌, get_or, set, fold, sym, refl, ◌∙◌, subst, inl, inr, ⊎_elim, append_assoc, append-nil, arith}
+use Rattle.std.proofs.lemmas.Bool.{and_parts, and_cases, leb-true, leb-false}
 use Rattle.venue.specs.declared.rows.Candidate.{Candidate}
 use Rattle.venue.specs.declared.rows.Trade.{Trade}
 use Rattle.venue.specs.Days.{Day, numbered, request_of, quote_of, open_of}
-use Rattle.venue.specs.Trading.{Filled, renumbered, trade_of_fill, meets, filled_by, turn, fills, total}
+use Rattle.venue.specs.Trading.{Filled, renumbered, trade_of_fill, meets, turn, fills, total}
 use Rattle.venue.specs.Laws.{Turns, Turns.finished, Turns.passed, Turns.traded, all_remaining, FillsByTurns, FillsAddUp}
 
 module _ (d : Day) (n : ℕ) where

@@ -1,5 +1,5 @@
 -- Every request stands on a symbol of the day, from the opening on. Assumes nothing.
-use Rattle.std.proofs.Common.{◌≡◌, ℕ, zero, suc, ◌+◌, ◌-◌, ◌<◌, ◌≤◌, Bool, true, false, not, ◌&&◌, ◌||◌, List, [], ◌∷◌, ◌++◌, map, length, get_or, Some, None, Ok, Err, Result, unwrap_or, is_some, sym, refl, ap, ◌∙◌, subst, arith}
+use Rattle.std.proofs.Common.{◌≡◌, ℕ, zero, suc, ◌+◌, ◌-◌, ◌<◌, Bool, true, false, not, ◌&&◌, ◌||◌, List, [], ◌∷◌, map, length, get_or, Some, Ok, Err, Result, unwrap_or, is_some, sym, refl, ap, ◌∙◌, subst, arith}
 use Rattle.std.specs.Str.{bytes_eq}
 use Rattle.std.specs.List.{AllByRecursion as All}
 use Rattle.std.proofs.lemmas.Bool.{cond_both, and_parts, not-false, true≢false, false≢true}
@@ -7,7 +7,7 @@ use Rattle.records.proofs.Unless.{granted}
 use Rattle.venue.specs.declared.rows.Symbol.{Symbol}
 use Rattle.venue.specs.declared.rows.Request.{Request}
 use Rattle.venue.specs.declared.rows.Acceptance.{Acceptance}
-use Rattle.venue.specs.Days.{Day, no_request, numbered, request_of, is_open, is_name, owns, place_from, place_of}
+use Rattle.venue.specs.Days.{Day, no_request, numbered, is_open, is_name, owns, place_from, place_of}
 use Rattle.venue.specs.Calls.{Call, Call.enter, Call.offer, Call.pull, Call.cancel, Call.accept, Call.file, Call.post, Call.move_clock, Call.ask_price, Call.view, Call.book, Call.close, causes}
 use Rattle.records.specs.declared.causes.Cause.{Cause}
 use Rattle.records.specs.declared.causes.Refusal.{Refusal}

@@ -1,6 +1,6 @@
 -- The premises of the law of two days can be met. Assumes nothing.
 use Rattle.std.proofs.Common.{◌≡◌, ℕ, refl, arith}
-use Rattle.venue.specs.TwoDays.{HeldBack, TwoDays, Sample, a_buyer, a_seller}
+use Rattle.venue.specs.TwoDays.{HeldBack, Sample, a_buyer, a_seller}
 
 held : HeldBack a_buyer a_seller
 held =

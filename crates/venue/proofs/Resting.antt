@@ -1,5 +1,5 @@
 -- What has ended rests. Assumes nothing.
-use Rattle.std.proofs.Common.{◌≡◌, ℕ, zero, suc, ◌+◌, ◌≤◌, Bool, true, false, cond, ◌&&◌, ◌||◌, eqb, leb, List, [], ◌∷◌, ◌++◌, map, length, get_or, set, Some, None, Ok, Err, Option, Result, refl, ap, ◌∙◌, arith, length-append}
+use Rattle.std.proofs.Common.{◌≡◌, ℕ, zero, suc, ◌≤◌, Bool, true, false, cond, ◌&&◌, ◌||◌, eqb, leb, List, [], ◌∷◌, ◌++◌, map, length, get_or, set, Some, None, Ok, Err, Option, Result, refl, ap, ◌∙◌, arith, length-append}
 use lib.ListN.{length-map}
 use Rattle.std.proofs.lemmas.Bool.{cond_both}
 use Rattle.records.specs.declared.causes.Refusal.{Refusal}
@@ -10,7 +10,7 @@ use Rattle.venue.specs.declared.rows.Quote.{Quote}
 use Rattle.venue.specs.Days.{Day, numbered, no_request, no_quote, request_of, quote_of, is_open}
 use Rattle.venue.specs.Trading.{renumbered}
 use Rattle.venue.specs.Calls.{Call, Call.enter, Call.offer, Call.pull, Call.cancel, Call.accept, Call.file, Call.post, Call.move_clock, Call.ask_price, Call.view, Call.book, Call.close, fills_of}
-use Rattle.venue.specs.Model.{Reply, answer, apply, next_by, next, ended_as, ended, ended_if, entered, offered, without_old, settled_quotes, is_over}
+use Rattle.venue.specs.Model.{Reply, answer, apply, next_by, next, ended_as, ended_if, entered, offered, without_old, settled_quotes, is_over}
 use Rattle.venue.specs.Quantities.{Rest, EndedRests}
 use Rattle.venue.proofs.Ending.{requests_after, quotes_after, new_requests, new_quotes}
 use Rattle.venue.proofs.Counting.{length_without_old}

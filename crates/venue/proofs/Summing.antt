@@ -1,9 +1,8 @@
 -- Quantities add up. Assumes nothing.
-use Rattle.std.proofs.Common.{◌≡◌, ℕ, zero, suc, ◌+◌, ◌-◌, ◌≤◌, min, cond, not, eqb, List, [], ◌∷◌, ◌++◌, map, length, get_or, set, Ok, Err, Result, sym, refl, ◌∙◌, subst, append-nil, arith, length-append}
+use Rattle.std.proofs.Common.{◌≡◌, ℕ, zero, suc, ◌+◌, ◌-◌, ◌≤◌, min, cond, eqb, List, [], ◌∷◌, ◌++◌, map, length, get_or, set, Ok, Err, Result, sym, refl, ◌∙◌, subst, append-nil, arith, length-append}
 use Rattle.std.proofs.lemmas.Bool.Decides.{nat_tests}
 use Rattle.records.specs.declared.causes.Refusal.{Refusal}
 use Rattle.venue.specs.declared.rows.Candidate.{Candidate}
-use Rattle.venue.specs.declared.rows.Life.TheVariants as life
 use Rattle.venue.specs.declared.rows.Request.{Request}
 use Rattle.venue.specs.declared.rows.Quote.{Quote}
 use Rattle.venue.specs.declared.rows.Trade.{Trade}

@@ -1,14 +1,13 @@
 -- Which refusal comes. Assumes nothing.
-use Rattle.std.proofs.Common.{◌≡◌, ℕ, ◌≤◌, Bool, true, false, cond, ◌⊎◌, List, [], ◌∷◌, ◌++◌, Ok, Err, Result, sym, refl, ap, ◌∙◌, subst, inl, inr, arith, lit≤}
+use Rattle.std.proofs.Common.{◌≡◌, ℕ, ◌≤◌, Bool, true, false, cond, List, [], ◌∷◌, Err, Result, refl, ap, subst, inl, inr, arith, lit≤}
 use Rattle.std.specs.List.{AllByRecursion as All}
 use Rattle.records.specs.declared.causes.Cause.{Cause}
-use Rattle.records.specs.declared.causes.Refusal.{Refusal}
 use Rattle.records.specs.Causes.{number, unless}
 use Rattle.records.proofs.Unless.{grants}
 use Rattle.venue.specs.Days.{Day}
 use Rattle.venue.specs.Calls.{Call, Call.enter, Call.offer, Call.pull, Call.cancel, Call.accept, Call.file, Call.post, Call.move_clock, Call.ask_price, Call.view, Call.book, Call.close, causes}
-use Rattle.venue.specs.Model.{judge, answer, next_by, next}
-use Rattle.venue.specs.Laws.{RefusedLeaves, Among, LeastCause, ToldCauses, Granted}
+use Rattle.venue.specs.Model.{next_by}
+use Rattle.venue.specs.Laws.{RefusedLeaves, LeastCause, ToldCauses, Granted}
 
 pub refused_leaves : RefusedLeaves
 refused_leaves d c e h = ap (next_by d c) h

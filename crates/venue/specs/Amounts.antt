@@ -1,6 +1,6 @@
 -- The amounts worked out by hand, as runs of calls.
 -- Assumes nothing.
-use Rattle.std.specs.Prelude.{◌≡◌, ℕ, ◌+◌, ◌*◌, Bool, true, false, List, [], ◌∷◌, ◌++◌, map, get_or, replicate, Some, None, Ok, Err, codes, Option, Result}
+use Rattle.std.specs.Prelude.{◌≡◌, ℕ, true, false, List, [], ◌∷◌, replicate, Some, None, Ok, Err, codes, Option, Result}
 use Rattle.records.specs.declared.causes.Cause.TheVariants.{BelowFloor}
 use Rattle.records.specs.declared.causes.Refusal.{Refusal}
 use Rattle.records.specs.declared.parts.Price.{Price}
@@ -9,9 +9,7 @@ use Rattle.prices.specs.declared.rows.Row.TheVariants.{Never}
 use Rattle.prices.specs.Rounding.{Amounts as Prices}
 use Rattle.prices.specs.Rows.{bare, fresh, uncrossed}
 use Rattle.venue.specs.declared.rows.User.{User}
-use Rattle.venue.specs.declared.rows.Symbol.{Symbol}
 use Rattle.venue.specs.declared.rows.Trade.{Trade}
-use Rattle.venue.specs.declared.rows.Report.{Report}
 use Rattle.venue.specs.Days.{Day, no_user}
 use Rattle.venue.specs.Calls.{Call, Call.enter, Call.offer, Call.accept, Call.post}
 use Rattle.venue.specs.Model.{Reply, Opening, open_day, after, answer, next}

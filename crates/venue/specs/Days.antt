@@ -1,12 +1,10 @@
 -- A day of the venue: its tables as lists, and what is looked up in them.
 -- Assumes nothing.
-use Rattle.std.specs.Prelude.{ℕ, zero, suc, ◌+◌, ◌/◌, ◌^◌, Bool, true, false, cond, not, ◌&&◌, ◌||◌, List, [], ◌∷◌, Some, None, Option, ◌==◌, nat_le, nat_lt, slice_index, slice_index_or}
+use Rattle.std.specs.Prelude.{ℕ, zero, suc, ◌+◌, ◌/◌, ◌^◌, Bool, true, false, cond, ◌&&◌, ◌||◌, List, [], ◌∷◌, Some, None, Option, ◌==◌, nat_le, nat_lt, slice_index, slice_index_or}
 use Rattle.std.specs.Str.{bytes_eq}
-use Rattle.records.specs.declared.parts.Price.{Price}
 use Rattle.records.specs.Bytes.{odd}
 use Rattle.records.specs.Fields.{no_price}
 use Rattle.prices.specs.declared.rows.Row.{Row}
-use Rattle.prices.specs.declared.rows.Ticks.{Ticks}
 use Rattle.prices.specs.Rows.{Screen}
 use Rattle.venue.specs.declared.rows.User.{User}
 use Rattle.venue.specs.declared.rows.Symbol.{Symbol}

@@ -1,7 +1,7 @@
 -- The law of debts: over several days with different numbers, calls on any of them, and debts that are presented to any of
 -- them, the unfiled trades are exactly those on the debts that are out, each on one.
 -- Assumes nothing.
-use Rattle.std.specs.Prelude.{◌≡◌, ℕ, zero, suc, ◌+◌, ◌<◌, Bool, true, false, cond, ◌&&◌, ◌≢◌, List, [], ◌∷◌, ◌++◌, map, length, Some, None, Ok, Err, Option, Result, ◌==◌, nat_le, slice_set}
+use Rattle.std.specs.Prelude.{◌≡◌, ℕ, zero, suc, ◌+◌, Bool, true, false, cond, ◌&&◌, ◌≢◌, List, [], ◌∷◌, ◌++◌, map, Some, None, Ok, Err, Option, Result, ◌==◌, nat_le, slice_set}
 use Rattle.std.specs.List.{AllByRecursion as All}
 use Rattle.records.specs.declared.causes.Refusal.{Refusal}
 use Rattle.venue.specs.declared.rows.Report.{Report}

@@ -1,6 +1,6 @@
 -- What holds of every call, above the definitions that are steps.
 -- Assumes nothing.
-use Rattle.std.specs.Prelude.{◌≡◌, ℕ, ◌+◌, ◌-◌, ◌<◌, ◌≤◌, min, Bool, true, false, ◌⊎◌, List, [], ◌∷◌, map, Ok, Err, Result}
+use Rattle.std.specs.Prelude.{◌≡◌, ℕ, ◌+◌, ◌-◌, ◌<◌, ◌≤◌, min, Bool, true, false, ◌⊎◌, List, [], ◌∷◌, map, Ok, Err}
 use Rattle.std.specs.List.Sorted.{IsPermutation}
 use Rattle.std.specs.List.{AllByRecursion as All}
 use Rattle.records.specs.declared.causes.Cause.{Cause}
@@ -11,7 +11,7 @@ use Rattle.venue.specs.declared.rows.Side.TheVariants.{Buy, Sell}
 use Rattle.venue.specs.declared.rows.Candidate.{Candidate}
 use Rattle.venue.specs.declared.rows.Trade.{Trade}
 use Rattle.venue.specs.Days.{Day, numbered, request_of, quote_of, open_of}
-use Rattle.venue.specs.Trading.{candidate, in_order, Filled, renumbered, trade_of_fill, fills, total}
+use Rattle.venue.specs.Trading.{candidate, in_order, renumbered, trade_of_fill, fills, total}
 use Rattle.venue.specs.Calls.{Call, causes}
 use Rattle.venue.specs.Model.{judge, answer, next}
 

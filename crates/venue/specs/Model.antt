@@ -1,10 +1,9 @@
 -- What each call does to a day and answers, and whole days.
 -- Assumes nothing.
-use Rattle.std.specs.Prelude.{ℕ, zero, suc, ◌+◌, ◌-◌, Bool, true, false, cond, not, ◌&&◌, ◌||◌, List, [], ◌∷◌, ◌++◌, map, length, replicate, Some, None, Ok, Err, Option, Result, ◌==◌, nat_le}
+use Rattle.std.specs.Prelude.{ℕ, zero, suc, ◌+◌, ◌-◌, Bool, true, false, cond, not, ◌&&◌, ◌||◌, List, [], ◌∷◌, ◌++◌, map, length, Some, None, Ok, Err, Option, Result, ◌==◌, nat_le}
 use Rattle.std.specs.Option.{unwrap_or}
 use Rattle.records.specs.declared.causes.Cause.{Cause}
 use Rattle.records.specs.declared.causes.Refusal.{Refusal}
-use Rattle.records.specs.declared.parts.Price.{Price}
 use Rattle.records.specs.Causes.{refusal, unless}
 use Rattle.prices.specs.declared.rows.Leg.{Leg}
 use Rattle.prices.specs.declared.rows.Leg.TheVariants.{Selling, Buying}
@@ -23,10 +22,8 @@ use Rattle.venue.specs.declared.rows.Trade.{Trade}
 use Rattle.venue.specs.declared.rows.Entry.{Entry}
 use Rattle.venue.specs.declared.rows.Offering.{Offering}
 use Rattle.venue.specs.declared.rows.Acceptance.{Acceptance}
-use Rattle.venue.specs.declared.rows.Posting.{Posting}
-use Rattle.venue.specs.declared.rows.PriceQuestion.{PriceQuestion}
 use Rattle.venue.specs.declared.rows.Report.{Report}
-use Rattle.venue.specs.Days.{Day, numbered, no_request, no_quote, no_trade, request_of, quote_of, place_of, is_open}
+use Rattle.venue.specs.Days.{Day, numbered, no_request, no_quote, no_trade, request_of, place_of, is_open}
 use Rattle.venue.specs.Trading.{Filled, renumbered, price_now}
 use Rattle.venue.specs.Pages.{view_page, book_page}
 use Rattle.venue.specs.Calls.{Call, Call.enter, Call.offer, Call.pull, Call.cancel, Call.accept, Call.file, Call.post, Call.move_clock, Call.ask_price, Call.view, Call.book, Call.close, minimum_of, expiry_of, shown_of, rest_of, fills_of, causes}

@@ -1,6 +1,6 @@
 -- The numbers that a day gives: they count up from 1 without gaps.
 -- Assumes nothing.
-use Rattle.std.specs.Prelude.{◌≡◌, ℕ, zero, suc, ◌+◌, ◌-◌, Bool, true, false, cond, ◌≢◌, List, [], ◌∷◌, ◌++◌, length, Some, None, Ok, Err, Option, Result}
+use Rattle.std.specs.Prelude.{◌≡◌, ℕ, zero, suc, ◌+◌, ◌-◌, ◌≢◌, List, [], ◌∷◌, ◌++◌, length, Some, None, Ok, Err, Option, Result}
 use Rattle.records.specs.declared.causes.Cause.TheVariants.{DayFull}
 use Rattle.records.specs.declared.causes.Refusal.{Refusal}
 use Rattle.venue.specs.declared.rows.Acceptance.{Acceptance}

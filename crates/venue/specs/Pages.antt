@@ -1,12 +1,9 @@
 -- What a view and a book question write: records, one after another.
 -- Assumes nothing.
-use Rattle.std.specs.Prelude.{ℕ, zero, suc, ◌+◌, ◌*◌, Bool, true, false, cond, ◌&&◌, ◌||◌, List, [], ◌∷◌, ◌++◌, length, is_some, Some, None, codes, fold, filter, Option, ◌==◌}
+use Rattle.std.specs.Prelude.{ℕ, zero, suc, ◌+◌, ◌*◌, Bool, cond, ◌||◌, List, [], ◌∷◌, ◌++◌, length, is_some, codes, fold, filter, Option, ◌==◌}
 use Rattle.std.specs.List.{flat_map}
 use Rattle.std.specs.Option.{unwrap_or}
-use Rattle.records.specs.declared.parts.Field.{Field}
 use Rattle.records.specs.declared.parts.Field.TheVariants as field
-use Rattle.records.specs.declared.parts.Record.{Record}
-use Rattle.records.specs.declared.parts.Value.{Value}
 use Rattle.records.specs.declared.parts.Value.TheVariants.{Number, Letter, Quoted, Name, Letters}
 use Rattle.records.specs.Fields.{blank, put}
 use Rattle.records.specs.Writing.{encode}
@@ -15,7 +12,6 @@ use Rattle.prices.specs.declared.rows.Leg.TheVariants.{Selling, Buying}
 use Rattle.ranked.specs.Ranks.{ranked}
 use Rattle.venue.specs.declared.rows.Side.{Side}
 use Rattle.venue.specs.declared.rows.Side.TheVariants.{Buy, Sell}
-use Rattle.venue.specs.declared.rows.Request.{Request}
 use Rattle.venue.specs.declared.rows.Candidate.{Candidate}
 use Rattle.venue.specs.Days.{Day, symbol_of, request_of, quote_of, trade_of, open_of, remaining_of, quotable, holds, name_before}
 use Rattle.venue.specs.Trading.{leg_of, had_now, executable, then_by, lowest, in_order, is_late}

@@ -1,6 +1,6 @@
 -- What can be wrong with a call, by name: the parts of the causes against an entry, a quote and a posting.
 -- Assumes nothing.
-use Rattle.std.specs.Prelude.{ℕ, Bool, cond, not, ◌&&◌, ◌||◌, List, [], ◌∷◌, length, is_some, codes, ◌==◌, nat_le, nat_lt}
+use Rattle.std.specs.Prelude.{Bool, cond, not, ◌&&◌, ◌||◌, List, [], ◌∷◌, length, is_some, codes, ◌==◌, nat_le, nat_lt}
 use Rattle.records.specs.declared.causes.Cause.{Cause}
 use Rattle.records.specs.declared.causes.Cause.TheVariants.{OutOfRange, UnknownUser, OffTick, MinimumAboveQuantity, NotAfterClock, RequestNotOpen, QuoteNotLive, DayFull, LegAgainstSide, BelowShownMinimum}
 use Rattle.records.specs.Bytes.{one_of}

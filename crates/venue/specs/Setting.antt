@@ -1,6 +1,6 @@
 -- Setting a day up: its users and symbols, and why one is refused.
 -- Assumes nothing.
-use Rattle.std.specs.Prelude.{ℕ, Bool, true, not, ◌&&◌, ◌||◌, List, [], ◌∷◌, ◌++◌, length, set, replicate, is_some, Ok, Err, codes, Result, ◌==◌, nat_le, nat_lt, slice_index_or, slice_set}
+use Rattle.std.specs.Prelude.{ℕ, Bool, true, not, ◌&&◌, ◌||◌, List, [], ◌∷◌, ◌++◌, length, replicate, is_some, Ok, Err, codes, Result, ◌==◌, nat_le, nat_lt, slice_index_or, slice_set}
 use Rattle.records.specs.declared.causes.Cause.{Cause}
 use Rattle.records.specs.declared.causes.Cause.TheVariants.{WrongLetter, OutOfRange, EnteredBefore, DayFull}
 use Rattle.records.specs.declared.causes.Refusal.{Refusal}

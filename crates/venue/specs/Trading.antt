@@ -1,6 +1,6 @@
 -- Which quotes are executable, in which order an acceptance takes them, and what it fills.
 -- Assumes nothing.
-use Rattle.std.specs.Prelude.{ℕ, zero, suc, ◌+◌, ◌-◌, ◌*◌, min, Bool, true, false, cond, not, ◌&&◌, ◌||◌, List, [], ◌∷◌, ◌++◌, length, Some, None, Ok, Err, fold, Option, Result, ◌==◌, nat_le, nat_lt, slice_set}
+use Rattle.std.specs.Prelude.{ℕ, zero, suc, ◌+◌, ◌-◌, ◌*◌, min, Bool, true, false, cond, ◌&&◌, ◌||◌, List, [], ◌∷◌, ◌++◌, Some, None, fold, Option, Result, ◌==◌, nat_le, nat_lt, slice_set}
 use Rattle.std.specs.Option.{unwrap_or}
 use Rattle.std.specs.Result.{result_ok}
 use Rattle.records.specs.declared.causes.Refusal.{Refusal}
@@ -12,7 +12,6 @@ use Rattle.prices.specs.Rows.{read_answer}
 use Rattle.ranked.specs.Ranks.{ranked}
 use Rattle.venue.specs.declared.rows.Side.{Side}
 use Rattle.venue.specs.declared.rows.Side.TheVariants.{Buy, Sell}
-use Rattle.venue.specs.declared.rows.Request.{Request}
 use Rattle.venue.specs.declared.rows.Quote.{Quote}
 use Rattle.venue.specs.declared.rows.Trade.{Trade}
 use Rattle.venue.specs.declared.rows.Candidate.{Candidate}

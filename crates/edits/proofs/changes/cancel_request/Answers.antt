@@ -1,4 +1,4 @@
-use Rattle.std.proofs.Common.{◌≡◌, eqb, take, refl, ap, ◌∙◌, arith, rules}
+use Rattle.std.proofs.Common.{eqb, take, refl, ap, ◌∙◌, arith, rules}
 use Rattle.std.proofs.lemmas.List.{take-map}
 use Rattle.tables.specs.Tabled.{bare_day}
 use Rattle.venue.specs.declared.rows.Life.TheVariants.{Cancelled}

@@ -1,4 +1,4 @@
-use Rattle.std.proofs.Common.{◌≡◌, ◌+◌, ◌-◌, take, refl, ap, ◌∙◌, arith, rules}
+use Rattle.std.proofs.Common.{◌+◌, ◌-◌, take, refl, ap, ◌∙◌, arith, rules}
 use Rattle.tables.specs.Tabled.{bare_day}
 use Rattle.edits.proofs.Edited.{take_filed}
 use Rattle.edits.proofs.Tabling.{same_tables}

@@ -1,4 +1,4 @@
-use Rattle.std.proofs.Common.{◌≡◌, take, refl, ap, ◌∙◌, arith, rules}
+use Rattle.std.proofs.Common.{take, refl, ap, ◌∙◌, arith, rules}
 use Rattle.tables.specs.Tabled.{bare_day}
 use Rattle.venue.specs.Days.{no_quote}
 use Rattle.venue.specs.Model.{ended}

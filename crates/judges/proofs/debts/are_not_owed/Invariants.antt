@@ -1,4 +1,4 @@
-use Rattle.std.proofs.Common.{◌≡◌, ◌+◌, ◌-◌, ◌≤◌}
+use Rattle.std.proofs.Common.{◌≡◌, ◌+◌, ◌-◌}
 use Rattle.tables.specs.Tabled.{bare_day}
 use Rattle.venue.specs.Calls.{not_owed}
 use Rattle.judges.proofs.debts.are_not_owed.Given as goal

@@ -1,4 +1,4 @@
-use Rattle.std.proofs.Common.{◌≡◌, ◌++◌, Err, sym, ap, ◌∙◌}
+use Rattle.std.proofs.Common.{◌++◌, Err, sym, ap, ◌∙◌}
 use Rattle.std.proofs.lemmas.Result.{err_from_is_err_and}
 use Rattle.records.proofs.Unless.{verdict, unless_next, unless_first}
 use Rattle.venue.specs.Days.{request_of}

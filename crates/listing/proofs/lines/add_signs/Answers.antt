@@ -1,4 +1,4 @@
-use Rattle.std.proofs.Common.{◌≡◌, ◌++◌, get_or, take, vec_items, ap, ◌∙◌, arith}
+use Rattle.std.proofs.Common.{◌++◌, get_or, take, vec_items, ap, ◌∙◌, arith}
 use Rattle.std.specs.List.{flat_map}
 use Rattle.std.proofs.lemmas.List.{flat_map_more, take_more, take_all}
 use Rattle.listing.specs.Lines.{sign}

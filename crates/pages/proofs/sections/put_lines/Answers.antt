@@ -1,4 +1,4 @@
-use Rattle.std.proofs.Common.{ℕ, ◌+◌, List, ◌++◌, length, sym, ap, ◌∙◌, subst, arith}
+use Rattle.std.proofs.Common.{ℕ, List, ◌++◌, length, sym, ap, ◌∙◌, subst, arith}
 use Rattle.pages.specs.Sections.{lines_of}
 use Rattle.pages.proofs.Numbered.{lines_more, lines_within}
 use Rattle.pages.proofs.Putting.{Put, put_then}

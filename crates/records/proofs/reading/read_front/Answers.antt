@@ -1,6 +1,6 @@
-use Rattle.std.proofs.Common.{◌≡◌, ◌≤◌, length, get_or, Some, Ok, Err, sym, refl, ap, ◌∙◌, arith, rules}
+use Rattle.std.proofs.Common.{◌≡◌, ◌≤◌, length, get_or, Some, Ok, Err, refl, ap, ◌∙◌, rules}
 use Rattle.std.proofs.lemmas.Result.{err_from_is_err_and}
-use Rattle.records.specs.Reading.{kind_in, map_in}
+use Rattle.records.specs.Reading.{kind_in}
 use Rattle.records.proofs.Layers.{rest_is, known_from}
 use Rattle.records.proofs.reading.read_front.Goals as goal
 

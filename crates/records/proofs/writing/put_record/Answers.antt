@@ -1,4 +1,4 @@
-use Rattle.std.proofs.Common.{◌≡◌, ℕ, ◌+◌, ◌/◌, ◌%◌, ◌<◌, List, [], ◌∷◌, length, get_or, Some, sym, ap, ◌∙◌, arith, rules}
+use Rattle.std.proofs.Common.{◌≡◌, ℕ, ◌/◌, ◌%◌, List, [], ◌∷◌, get_or, Some, sym, ap, ◌∙◌, arith}
 use Rattle.records.specs.Layout.{kind_of}
 use Rattle.records.specs.Writing.{over}
 use Rattle.records.proofs.Records.{fields_long, all_written}

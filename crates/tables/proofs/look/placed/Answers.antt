@@ -1,4 +1,4 @@
-use Rattle.std.proofs.Common.{◌≡◌, sym, ◌∙◌, arith}
+use Rattle.std.proofs.Common.{◌∙◌}
 use Rattle.tables.proofs.Front.{row_in, row_out}
 use Rattle.tables.proofs.look.placed.Goals as goal
 

@@ -1,4 +1,4 @@
-use Rattle.std.proofs.Common.{◌≡◌, ◌+◌, sym, refl, ap, ◌∙◌, arith, rules}
+use Rattle.std.proofs.Common.{◌+◌, sym, refl, ap}
 use Rattle.venue.specs.Model.{a_number}
 use Rattle.day.proofs.Rooms.{requests_long, room_for_request}
 use Rattle.day.proofs.Stepping.{over_source, when_granted}

@@ -1,4 +1,4 @@
-use Rattle.std.proofs.Common.{◌≡◌, ◌+◌, sym, refl, ap, ◌∙◌}
+use Rattle.std.proofs.Common.{◌+◌, sym, refl, ap}
 use Rattle.venue.specs.Model.{a_number}
 use Rattle.day.proofs.Rooms.{quotes_long, room_for_quote}
 use Rattle.day.proofs.Stepping.{over_source, when_granted}
