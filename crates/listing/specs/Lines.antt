@@ -115,7 +115,7 @@ abbrev pub plain : ℕ → Bool
 plain b = nat_le 32 b && (nat_le b 126 && (not (b == 34) && not (b == 92)))
 
 abbrev pub sign : ℕ → List ℕ
-sign b = cond (plain b) (b ∷ []) (codes "\\x" ++ hex b)
+sign b = cond (plain b) (b ∷ []) (codes "\\x" ++ digit (b / 16) ∷ digit (b % 16) ∷ [])
 
 abbrev pub name_text : List ℕ → List ℕ
 name_text bs = 34 ∷ (flat_map sign bs ++ 34 ∷ [])

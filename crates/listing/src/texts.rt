@@ -19,16 +19,25 @@ struct Tally {
 }
 
 /// The kind letter at a place, or ? where it is unknown.
-pub fn letter_at(bytes: &[u8], at: usize) -> char
+fn letter_at(bytes: &[u8], at: usize) -> char
+    requires { at < length bytes.now }
     ensures { result ≡ letter_of bytes.now at }
 {
-    if at >= bytes.len() {
-        return '?';
-    }
     let letter = char::from(bytes[at]);
     match Kind::of(letter) {
         Some(_) => letter,
         None => '?',
+    }
+}
+
+/// The kind letter at a place, or ? where it is unknown, and past the end of the bytes.
+pub fn letter_shown(bytes: &[u8], at: usize) -> char
+    ensures { result ≡ letter_of bytes.now at }
+{
+    if at < bytes.len() {
+        letter_at(bytes, at)
+    } else {
+        '?'
     }
 }
 

@@ -1,6 +1,6 @@
 -- What was written is read, and what was read is written. Assumes nothing.
 use Rattle.std.proofs.Common.{◌≡◌, ℕ, ◌+◌, ◌-◌, ◌*◌, ◌/◌, ◌%◌, ◌≤◌, Bool, true, false, cond, ◌&&◌, ◌||◌, ltb, List, [], ◌∷◌, ◌++◌, length, get_or, take, drop, Some, None, Ok, Err, Option, Result, sym, refl, ap, ◌∙◌, subst, arith, length-append, length-drop, take-add, ltb-false, le-ltb}
-use Rattle.std.specs.List.{flat_map, AllByRecursion as All}
+use Rattle.std.specs.List.{flat_map, AllByRecursion as Every}
 use Rattle.std.proofs.lemmas.List.{get_or-drop}
 use Rattle.std.proofs.lemmas.Bool.{cond-true, or_parts, or_from, and_right, lt-ltb}
 use Rattle.records.specs.declared.causes.Cause.{Cause}
@@ -172,7 +172,7 @@ head_back (x ∷ y ∷ z ∷ t) xs b h =
     let ez : (y + z * 256) / 256 % 256 ≡ z = rw q (omega arith) in
     λ i. x ∷ ey i ∷ ez i ∷ xs
 
-module _ (t : List ℕ) (bytes : Bytes t) (fine : All (λ c. c.1 ≡ false) (tests t)) where
+module _ (t : List ℕ) (bytes : Bytes t) (fine : Every (λ c. c.1 ≡ false) (tests t)) where
   abbrev k₀ : ℕ
   k₀ = get_or t 0 0
 

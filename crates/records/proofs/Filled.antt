@@ -1,6 +1,6 @@
 -- The fields of a record that bytes were filled into. Assumes nothing.
 use Rattle.std.proofs.Common.{◌≡◌, ℕ, ◌+◌, ◌≤◌, Bool, true, false, cond, not, ◌||◌, List, [], ◌∷◌, ◌++◌, length, take, drop, sym, refl, ap, ◌∙◌, subst, append_assoc, arith, length-drop, take-add}
-use Rattle.std.specs.List.{flat_map, AllByRecursion as All}
+use Rattle.std.specs.List.{flat_map, AllByRecursion as Every}
 use Rattle.std.proofs.lemmas.List.{drop_at, get_or-drop}
 use Rattle.std.proofs.lemmas.Bool.{cond-true, cond-false, not-false, or_parts, or_left, or_right}
 use Rattle.records.specs.declared.parts.Field.{Field}
@@ -60,13 +60,13 @@ module _ (r : Record) (typed : Typed r) where
       ∙ pick (same f h) (among fs h) (value h r) (value h (decoded s)) (value h b) here
 
 -- records with the same fields are right or wrong alike
-pub wrong_like : (a b : Record) (fs : List Field) → All (λ f. value f a ≡ value f b) fs → wrong a fs ≡ wrong b fs
+pub wrong_like : (a b : Record) (fs : List Field) → Every (λ f. value f a ≡ value f b) fs → wrong a fs ≡ wrong b fs
 wrong_like a b [] h = refl
 wrong_like a b (f ∷ fs) h =
     ap (λ v. not (fits (shape f) v) || wrong a fs) h.0 ∙ ap (λ w. not (fits (shape f) (value f b)) || w) (wrong_like a b fs h.1)
 
 -- what holds of the fields among a list holds of all of it
-pub all_among : (P : Field → Type 0) (fs gs : List Field) → ((h : Field) → among fs h ≡ true → among gs h ≡ true) → ((h : Field) → among gs h ≡ true → P h) → All P fs
+pub all_among : (P : Field → Type 0) (fs gs : List Field) → ((h : Field) → among fs h ≡ true → among gs h ≡ true) → ((h : Field) → among gs h ≡ true → P h) → Every P fs
 all_among P [] gs i p = tt
 all_among P (f ∷ fs) gs i p =
     (p f (i f (or_left (same f f) (among fs f) (same_self f))), all_among P fs gs (λ h e. i h (or_right (same f h) (among fs h) e)) p)

@@ -1,20 +1,20 @@
 -- What is known of an answer that no cause forbids. Assumes nothing.
 use Rattle.std.proofs.Common.{◌≡◌, ℕ, Bool, true, false, cond, List, [], ◌∷◌, ◌++◌, Ok, Err, Result, sym, refl, ap, ◌∙◌, arith}
-use Rattle.std.specs.List.{AllByRecursion as All}
+use Rattle.std.specs.List.{AllByRecursion as Every}
 use Rattle.records.specs.declared.causes.Cause.{Cause}
 use Rattle.records.specs.Causes.{unless}
 
 -- none of the causes holds, and the answer is the one that was to be given
-pub granted : {X : Type 0} (cs : List (Cause × Bool)) (x y : X) → unless cs x ≡ Ok y → All (λ c. c.1 ≡ false) cs × (x ≡ y)
+pub granted : {X : Type 0} (cs : List (Cause × Bool)) (x y : X) → unless cs x ≡ Ok y → Every (λ c. c.1 ≡ false) cs × (x ≡ y)
 granted [] x y e = (tt, cc)
 granted {X} (c ∷ cs) x y e = by_test c.1 refl e (granted cs x y)
   where
-    by_test : (b : Bool) → c.1 ≡ b → cond b (Err c.0) (unless cs x) ≡ Ok y → (unless cs x ≡ Ok y → All (λ d. d.1 ≡ false) cs × (x ≡ y)) → (((c.1 ≡ false) × All (λ d. d.1 ≡ false) cs) × (x ≡ y))
+    by_test : (b : Bool) → c.1 ≡ b → cond b (Err c.0) (unless cs x) ≡ Ok y → (unless cs x ≡ Ok y → Every (λ d. d.1 ≡ false) cs × (x ≡ y)) → (((c.1 ≡ false) × Every (λ d. d.1 ≡ false) cs) × (x ≡ y))
     by_test true h k ih = let z : ◌≡◌ {A = ℕ} 0 1 = cc in absurd (omega arith)
     by_test false h k ih = let rest = ih k in ((h, rest.0), rest.1)
 
 -- and where none holds, that answer is given
-pub grants : {X : Type 0} (cs : List (Cause × Bool)) (x : X) → All (λ c. c.1 ≡ false) cs → unless cs x ≡ Ok x
+pub grants : {X : Type 0} (cs : List (Cause × Bool)) (x : X) → Every (λ c. c.1 ≡ false) cs → unless cs x ≡ Ok x
 grants [] x h = refl
 grants (c ∷ cs) x h = ap (λ b. cond b (Err c.0) (unless cs x)) h.0 ∙ grants cs x h.1
 

@@ -17,7 +17,7 @@ use calls::{
     acceptance_of, entry_of, new_symbol_of, new_user_of, offering_of, posting_of, price_question_of,
 };
 use day::forms::{Closed, Refused, Setup, Trading};
-use listing::texts::letter_at;
+use listing::texts::letter_shown;
 use prices::sources::Source;
 use records::causes::{Cause, Refusal};
 use records::parts::{Kind, Record};
@@ -430,7 +430,7 @@ pub fn add_turn<S: Source>(
 ) -> Result<Step, AllocError>
     ensures { IfOk result (λ step. Stepped (length buffer.old) bytes.now at count (state_of S.rows S.screen run.old) (state_of S.rows S.screen run.new) text.old.items text.new.items step) }
 {
-    let letter = letter_at(bytes, at);
+    let letter = letter_shown(bytes, at);
     let mut fields = Record::blank(0);
     match read(bytes, at, &mut fields) {
         Ok((kind, next)) => {
@@ -463,7 +463,7 @@ pub fn add_move<S: Source + Drop>(
 ) -> Result<(Run<S>, Option<usize>), AllocError>
     ensures { IfOk result (λ q. Turned (length buffer.old) bytes.now at count (state_of S.rows S.screen run) (state_of S.rows S.screen q.0) text.old.items text.new.items q.1) }
 {
-    let letter = letter_at(bytes, at);
+    let letter = letter_shown(bytes, at);
     let mut fields = Record::blank(0);
     match read(bytes, at, &mut fields) {
         Ok((kind, next)) => {

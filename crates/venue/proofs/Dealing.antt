@@ -1,6 +1,6 @@
 -- Every trade is a good one. Assumes nothing.
 use Rattle.std.proofs.Common.{◌≡◌, ℕ, zero, suc, ◌+◌, ◌-◌, ◌≤◌, true, false, cond, not, ◌&&◌, eqb, List, [], ◌∷◌, ◌++◌, map, get_or, set, Some, None, Ok, Err, Option, Result, unwrap_or, sym, refl, ap, ◌∙◌, subst, append_assoc, append-nil, arith, eqb-true}
-use Rattle.std.specs.List.{AllByRecursion as All}
+use Rattle.std.specs.List.{AllByRecursion as Every}
 use Rattle.std.proofs.ByRecursion.{all_shuffled}
 use Rattle.std.proofs.lemmas.Bool.{cond_both, and_parts, or_parts, not-false, leb-true}
 use Rattle.records.specs.declared.causes.Refusal.{Refusal}
@@ -43,24 +43,24 @@ abbrev pub Fit : Day → ℕ → Candidate → Type 0
 Fit d n c = (executable d n c.quote ≡ true) × (c.price ≡ unwrap_or (quote_price d n c.quote) 0)
 
 module _ (d : Day) (n : ℕ) where
-  all_executable : (qs : List ℕ) → has_inexecutable d n qs ≡ false → All (λ q. executable d n q ≡ true) qs
+  all_executable : (qs : List ℕ) → has_inexecutable d n qs ≡ false → Every (λ q. executable d n q ≡ true) qs
   all_executable [] h = tt
   all_executable (q ∷ qs) h =
       let p = or_parts (not (executable d n q)) (has_inexecutable d n qs) h in
       (not-false (executable d n q) p.0, all_executable qs p.1)
 
-  all_once : (qs : List ℕ) → All (λ q. executable d n q ≡ true) qs → All (λ q. executable d n q ≡ true) (once qs)
+  all_once : (qs : List ℕ) → Every (λ q. executable d n q ≡ true) qs → Every (λ q. executable d n q ≡ true) (once qs)
   all_once [] h = tt
   all_once (q ∷ qs) h =
       let rest = all_once qs h.1 in
-      cond_both (member q qs) (once qs) (q ∷ once qs) (All (λ k. executable d n k ≡ true)) (λ t. rest) (λ f. (h.0, rest))
+      cond_both (member q qs) (once qs) (q ∷ once qs) (Every (λ k. executable d n k ≡ true)) (λ t. rest) (λ f. (h.0, rest))
 
-  all_fit : (qs : List ℕ) → All (λ q. executable d n q ≡ true) qs → All (Fit d n) (map (candidate d n) qs)
+  all_fit : (qs : List ℕ) → Every (λ q. executable d n q ≡ true) qs → Every (Fit d n) (map (candidate d n) qs)
   all_fit [] h = tt
   all_fit (q ∷ qs) h = ((h.0, refl), all_fit qs h.1)
 
   -- the quotes of an acceptance, in order
-  pub fit_line : (qs : List ℕ) → has_inexecutable d n qs ≡ false → All (Fit d n) (in_order d n (once qs))
+  pub fit_line : (qs : List ℕ) → has_inexecutable d n qs ≡ false → Every (Fit d n) (in_order d n (once qs))
   fit_line qs h =
       all_shuffled (Fit d n) (map (candidate d n) (once qs)) (in_order d n (once qs)) (sorted_quotes d n (once qs)).1
       (all_fit (once qs) (all_once qs (all_executable qs h)))
@@ -92,13 +92,13 @@ module _ (d : Day) (a : Acceptance) (own : (request_of d a.request).requestor �
         between = sides (request_of d n).side (request_of d n).requestor a.user (quote_of d q).user own;
       }
 
-  good_turns : (o : ℕ) (rs : List ℕ) (cs : List Candidate) (ts : List Trade) (o' : ℕ) (rs' : List ℕ) → Turns d n o rs cs ts o' rs' → All (Fit d n) cs → All (Good d a) ts
+  good_turns : (o : ℕ) (rs : List ℕ) (cs : List Candidate) (ts : List Trade) (o' : ℕ) (rs' : List ℕ) → Turns d n o rs cs ts o' rs' → Every (Fit d n) cs → Every (Good d a) ts
   good_turns o rs cs ts o' rs' (finished _ _) f = tt
   good_turns o rs cs ts o' rs' (passed _ _ c cs' _ _ _ h t) f = good_turns o rs cs' ts o' rs' t f.1
   good_turns o rs cs ts o' rs' (traded _ _ c cs' ts' _ _ h k t) f = (good_fill c _ f.0 h k, good_turns _ _ cs' ts' o' rs' t f.1)
 
 -- what an acceptance that is carried out adds
-pub new_good : (d : Day) (a : Acceptance) (r : Reply) → answer d (accept a) ≡ Ok r → All (Good d a) (fills_of d a).trades
+pub new_good : (d : Day) (a : Acceptance) (r : Reply) → answer d (accept a) ≡ Ok r → Every (Good d a) (fills_of d a).trades
 new_good d a r e =
     let g = granted (causes d (accept a)) tt tt (judged d (accept a) (judge d (accept a)) r e) in
     let owned = not-false (owns d a.user a.request) g.0.1.1.1.1.1.0 in
@@ -106,26 +106,26 @@ new_good d a r e =
     let line = in_order d a.request (once (named a.quotes)) in
     good_turns d a own _ _ line _ _ _ (fills_by_turns d a.request line) (fit_line d a.request (named a.quotes) g.0.1.1.1.1.1.1.0)
 
-pub all_by : {X : Type 0} (P Q : X → Type 0) (xs : List X) → ((x : X) → P x → Q x) → All P xs → All Q xs
+pub all_by : {X : Type 0} (P Q : X → Type 0) (xs : List X) → ((x : X) → P x → Q x) → Every P xs → Every Q xs
 all_by P Q [] f h = tt
 all_by P Q (x ∷ xs) f h = (f x h.0, all_by P Q xs f h.1)
 
-pub all_append : {X : Type 0} (P : X → Type 0) (xs ys : List X) → All P xs → All P ys → All P (xs ++ ys)
+pub all_append : {X : Type 0} (P : X → Type 0) (xs ys : List X) → Every P xs → Every P ys → Every P (xs ++ ys)
 all_append P [] ys h k = k
 all_append P (x ∷ xs) ys h k = (h.0, all_append P xs ys h.1 k)
 
 -- a filing keeps what does not look at the mark
 module _ (P : Trade → Type 0) (f : (t : Trade) → P t → P (filed_trade t)) where
-  all_set : (ts : List Trade) (i : ℕ) → All P ts → All P (set ts i (filed_trade (get_or ts i no_trade)))
+  all_set : (ts : List Trade) (i : ℕ) → Every P ts → Every P (set ts i (filed_trade (get_or ts i no_trade)))
   all_set [] i h = tt
   all_set (t ∷ ts) zero h = (f t h.0, h.1)
   all_set (t ∷ ts) (suc i) h = (h.0, all_set ts i h.1)
 
-  all_marked : (ts : List Trade) (n : ℕ) → All P ts → All P (renumbered ts n (filed_trade (numbered no_trade ts n)))
+  all_marked : (ts : List Trade) (n : ℕ) → Every P ts → Every P (renumbered ts n (filed_trade (numbered no_trade ts n)))
   all_marked ts zero h = h
   all_marked ts (suc i) h = all_set ts i h
 
-  all_filed : (m : ℕ) (ts : List Trade) (t : ℕ) → All P ts → All P (filed ts t m)
+  all_filed : (m : ℕ) (ts : List Trade) (t : ℕ) → Every P ts → Every P (filed ts t m)
   all_filed zero ts t h = h
   all_filed (suc m) ts t h = all_filed m _ (t + 1) (all_marked ts t h)
 
@@ -179,7 +179,7 @@ module _ (start : Day) where
     abbrev New : Call → Trade → Type 0
     New c = Made start (done ++ c ∷ [])
 
-    carried : (c : Call) (r : Reply) → answer d c ≡ Ok r → All (New c) d.trades → All (New c) (apply d c).trades
+    carried : (c : Call) (r : Reply) → answer d c ≡ Ok r → Every (New c) d.trades → Every (New c) (apply d c).trades
     carried (enter x) r e h = h
     carried (offer x) r e h = h
     carried (pull u q) r e h = h
@@ -197,7 +197,7 @@ module _ (start : Day) where
     carried (book u k room) r e h = h
     carried close r e h = h
 
-    step : (c : Call) (q : Result Reply Refusal) → answer d c ≡ q → All Old d.trades → All (New c) (next_by d c q).trades
+    step : (c : Call) (q : Result Reply Refusal) → answer d c ≡ q → Every Old d.trades → Every (New c) (next_by d c q).trades
     step c (Ok r) e h = carried c r e (all_by Old (New c) d.trades (made_on done c) h)
     step c (Err x) e h = all_by Old (New c) d.trades (made_on done c) h
 
@@ -205,14 +205,14 @@ module _ (start : Day) where
   after_append [] e c = refl
   after_append (b ∷ cs) e c = after_append cs (next e b) c
 
-  run : (cs done : List Call) → All (Made start done) (after start done).trades → All (Made start (done ++ cs)) (after (after start done) cs).trades
-  run [] done h = subst (λ l. All (Made start l) (after start done).trades) (sym (append-nil done)) h
+  run : (cs done : List Call) → Every (Made start done) (after start done).trades → Every (Made start (done ++ cs)) (after (after start done) cs).trades
+  run [] done h = subst (λ l. Every (Made start l) (after start done).trades) (sym (append-nil done)) h
   run (c ∷ cs) done h =
       let one = after_append done start c in
-      let here = subst (λ (e : Day). All (Made start (done ++ c ∷ [])) e.trades) (sym one) (step done c (answer (after start done) c) refl h) in
+      let here = subst (λ (e : Day). Every (Made start (done ++ c ∷ [])) e.trades) (sym one) (step done c (answer (after start done) c) refl h) in
       let rest = run cs (done ++ c ∷ []) here in
-      let moved = subst (λ (e : Day). All (Made start ((done ++ c ∷ []) ++ cs)) (after e cs).trades) one rest in
-      subst (λ l. All (Made start l) (after (next (after start done) c) cs).trades) (append_assoc done (c ∷ []) cs) moved
+      let moved = subst (λ (e : Day). Every (Made start ((done ++ c ∷ []) ++ cs)) (after e cs).trades) one rest in
+      subst (λ l. Every (Made start l) (after (next (after start done) c) cs).trades) (append_assoc done (c ∷ []) cs) moved
 
 pub trades_are_good : TradesAreGood
 trades_are_good o cs = run (open_day o) cs [] tt

@@ -1,6 +1,6 @@
 -- The law of debts. Assumes nothing.
 use Rattle.std.proofs.Common.{◌≡◌, ℕ, zero, suc, ◌+◌, ◌-◌, ◌<◌, Bool, true, false, cond, not, ◌&&◌, ◌||◌, eqb, ltb, leb, ◌≢◌, List, [], ◌∷◌, ◌++◌, map, length, get_or, set, Some, None, Ok, Err, Option, Result, sym, refl, ap, ◌∙◌, subst, arith, get_or-set_other, ltb-false, eqb-true}
-use Rattle.std.specs.List.{AllByRecursion as All}
+use Rattle.std.specs.List.{AllByRecursion as Every}
 use Rattle.std.proofs.lemmas.Bool.{cond-false, or_parts, not-false, and_left}
 use Rattle.std.proofs.lemmas.Bool.Decides.{nat_tests}
 use Rattle.records.specs.declared.causes.Refusal.{Refusal}
@@ -32,17 +32,17 @@ other_day : (r : Report) (n t : ℕ) → r.day ≢ n → covers r n t ≡ 0
 other_day r n t h = let no : eqb r.day n ≡ false = grind (arith, nat_tests) in cond-false _ _ _ (and_left (eqb r.day n) _ no)
 
 -- a list with ones behind it
-ones_at : (ys : List ℕ) (k : ℕ) → All (λ y. y ≡ 1) ys → get_or ys k 0 ≡ cond (ltb k (length ys)) 1 0
+ones_at : (ys : List ℕ) (k : ℕ) → Every (λ y. y ≡ 1) ys → get_or ys k 0 ≡ cond (ltb k (length ys)) 1 0
 ones_at [] k h = grind (arith, nat_tests)
 ones_at (y ∷ ys) zero h = let e = h.0 in grind (arith, nat_tests)
 ones_at (y ∷ ys) (suc k) h = let e = ones_at ys k h.1 in grind (arith, nat_tests)
 
-ones_behind : (xs ys : List ℕ) (k : ℕ) → All (λ y. y ≡ 1) ys → get_or (xs ++ ys) k 0 ≡ get_or xs k 0 + cond (leb (length xs) k && ltb k (length xs + length ys)) 1 0
+ones_behind : (xs ys : List ℕ) (k : ℕ) → Every (λ y. y ≡ 1) ys → get_or (xs ++ ys) k 0 ≡ get_or xs k 0 + cond (leb (length xs) k && ltb k (length xs + length ys)) 1 0
 ones_behind [] ys k h = let e = ones_at ys k h in grind (arith, nat_tests)
 ones_behind (x ∷ xs) ys zero h = grind (arith, nat_tests)
 ones_behind (x ∷ xs) ys (suc k) h = let e = ones_behind xs ys k h in grind (arith, nat_tests)
 
-appended : (xs ys : List ℕ) (t : ℕ) → All (λ y. y ≡ 1) ys → numbered 0 (xs ++ ys) t ≡ numbered 0 xs t + cond (leb (length xs + 1) t && leb t (length xs + length ys)) 1 0
+appended : (xs ys : List ℕ) (t : ℕ) → Every (λ y. y ≡ 1) ys → numbered 0 (xs ++ ys) t ≡ numbered 0 xs t + cond (leb (length xs + 1) t && leb t (length xs + length ys)) 1 0
 appended xs ys zero h = grind (arith, nat_tests)
 appended xs ys (suc k) h = let e = ones_behind xs ys k h in grind (arith, nat_tests)
 
@@ -122,7 +122,7 @@ in_range : (first last t : ℕ) → ◌≡◌ {A = ℕ} (cond (leb first t && lt
 in_range first last t = grind (arith, nat_tests)
 
 -- the trades of fills are unfiled
-unfiled_turns : (d : Day) (n o : ℕ) (rs : List ℕ) (cs : List Candidate) (ts : List Trade) (o' : ℕ) (rs' : List ℕ) → Turns d n o rs cs ts o' rs' → All (λ m. m ≡ 1) (marks ts)
+unfiled_turns : (d : Day) (n o : ℕ) (rs : List ℕ) (cs : List Candidate) (ts : List Trade) (o' : ℕ) (rs' : List ℕ) → Turns d n o rs cs ts o' rs' → Every (λ m. m ≡ 1) (marks ts)
 unfiled_turns d n o rs cs ts o' rs' (finished _ _) = tt
 unfiled_turns d n o rs cs ts o' rs' (passed _ _ c cs' _ _ _ h t) = unfiled_turns d n o rs cs' ts o' rs' t
 unfiled_turns d n o rs cs ts o' rs' (traded _ _ c cs' ts' _ _ h k t) = (refl, unfiled_turns d n _ _ cs' ts' o' rs' t)
@@ -149,7 +149,7 @@ covers_own d ts t =
     let own : eqb d.number d.number ≡ true = grind (arith, nat_tests) in
     ap (λ b. cond (b && (leb (length d.trades + 1) t && leb t (length d.trades + length ts))) 1 0) own
 
-owes_debt : (d d' : Day) (ts : List Trade) (debts : List Report) → d'.number ≡ d.number → d'.trades ≡ d.trades ++ ts → All (λ m. m ≡ 1) (marks ts) → debts ≡ owed_for d ts ∷ [] → Owes d d' debts
+owes_debt : (d d' : Day) (ts : List Trade) (debts : List Report) → d'.number ≡ d.number → d'.trades ≡ d.trades ++ ts → Every (λ m. m ≡ 1) (marks ts) → debts ≡ owed_for d ts ∷ [] → Owes d d' debts
 owes_debt d d' ts debts n is ones owed =
     record {
       number = n;
@@ -219,25 +219,25 @@ filing_brings d r x e =
 -- one day of several is replaced, and the debts change for it alone
 module _ (old new : List Report) (d d' : Day) (same : d'.number ≡ d.number) (here : Balanced old d → Balanced new d') (there : (n t : ℕ) → n ≢ d.number → covered new n t ≡ covered old n t) where
   -- the days that are not d
-  others : (ds : List Day) → All (λ e. e.number ≢ d.number) ds → All (Balanced old) ds → All (Balanced new) ds
+  others : (ds : List Day) → Every (λ e. e.number ≢ d.number) ds → Every (Balanced old) ds → Every (Balanced new) ds
   others [] ne b = tt
   others (e ∷ ds) ne b = (λ t. there e.number t ne.0 ∙ b.0 t, others ds ne.1 b.1)
 
-  not_nth : (ds : List Day) (i : ℕ) (e : Day) → nth ds i ≡ Some d → All (λ f. f.number ≢ e.number) ds → e.number ≢ d.number
+  not_nth : (ds : List Day) (i : ℕ) (e : Day) → nth ds i ≡ Some d → Every (λ f. f.number ≢ e.number) ds → e.number ≢ d.number
   not_nth [] i e n h = let z : ◌≡◌ {A = ℕ} 0 1 = cc in absurd (omega arith)
   not_nth (f ∷ ds) zero e n h = λ k. h.0 (let is : f ≡ d = cc in ap (λ (g : Day). g.number) is ∙ sym k)
   not_nth (f ∷ ds) (suc i) e n h = not_nth ds i e n h.1
 
-  balanced_set : (ds : List Day) (i : ℕ) → nth ds i ≡ Some d → Different ds → All (Balanced old) ds → All (Balanced new) (set ds i d')
+  balanced_set : (ds : List Day) (i : ℕ) → nth ds i ≡ Some d → Different ds → Every (Balanced old) ds → Every (Balanced new) (set ds i d')
   balanced_set [] i n f b = tt
   balanced_set (e ∷ ds) zero n f b =
       let is : e ≡ d = cc in
-      (here (subst (Balanced old) is b.0), others ds (subst (λ (g : Day). All (λ h. h.number ≢ g.number) ds) is f.0) b.1)
+      (here (subst (Balanced old) is b.0), others ds (subst (λ (g : Day). Every (λ h. h.number ≢ g.number) ds) is f.0) b.1)
   balanced_set (e ∷ ds) (suc i) n f b =
       (λ t. there e.number t (not_nth ds i e n f.0) ∙ b.0 t, balanced_set ds i n f.1 b.1)
 
   -- the numbers stay different
-  still_other : (ds : List Day) (i : ℕ) (m : ℕ) → nth ds i ≡ Some d → All (λ e. e.number ≢ m) ds → All (λ e. e.number ≢ m) (set ds i d')
+  still_other : (ds : List Day) (i : ℕ) (m : ℕ) → nth ds i ≡ Some d → Every (λ e. e.number ≢ m) ds → Every (λ e. e.number ≢ m) (set ds i d')
   still_other [] i m n h = tt
   still_other (e ∷ ds) zero m n h = (λ k. h.0 (let is : e ≡ d = cc in ap (λ (g : Day). g.number) is ∙ sym same ∙ k), h.1)
   still_other (e ∷ ds) (suc i) m n h = (h.0, still_other ds i m n h.1)
@@ -246,13 +246,13 @@ module _ (old new : List Report) (d d' : Day) (same : d'.number ≡ d.number) (h
   different_set [] i n f = tt
   different_set (e ∷ ds) zero n f =
       let is : e ≡ d = cc in
-      (subst (λ m. All (λ h. h.number ≢ m) ds) (ap (λ (g : Day). g.number) is ∙ sym same) f.0, f.1)
+      (subst (λ m. Every (λ h. h.number ≢ m) ds) (ap (λ (g : Day). g.number) is ∙ sym same) f.0, f.1)
   different_set (e ∷ ds) (suc i) n f = (still_other ds i e.number n f.0, different_set ds i n f.1)
 
 -- the law is kept by every event
 pub record Sound (w : World) : Type 0 where
   pub apart : Different w.days
-  pub balanced : All (Balanced w.debts) w.days
+  pub balanced : Every (Balanced w.debts) w.days
 
 call_sound : (w : World) (i : ℕ) (c : Call) (o : Option Day) → nth w.days i ≡ o → is_filing c ≡ false → Sound w → Sound (called w i c o)
 call_sound w i c None n f s = s
@@ -319,7 +319,7 @@ steps_sound [] w s = s
 steps_sound (e ∷ es) w s = steps_sound es (step w e) (step_sound w e s)
 
 -- a day that opens owes nothing
-opened_balanced : (os : List Opening) → All (Balanced []) (map open_day os)
+opened_balanced : (os : List Opening) → Every (Balanced []) (map open_day os)
 opened_balanced [] = tt
 opened_balanced (o ∷ os) = (none, opened_balanced os)
   where

@@ -1,7 +1,7 @@
 -- Every request stands on a symbol of the day, from the opening on. Assumes nothing.
 use Rattle.std.proofs.Common.{◌≡◌, ℕ, zero, suc, ◌+◌, ◌-◌, ◌<◌, Bool, true, false, not, ◌&&◌, ◌||◌, List, [], ◌∷◌, map, length, get_or, Some, Ok, Err, Result, unwrap_or, is_some, sym, refl, ap, ◌∙◌, subst, arith}
 use Rattle.std.specs.Str.{bytes_eq}
-use Rattle.std.specs.List.{AllByRecursion as All}
+use Rattle.std.specs.List.{AllByRecursion as Every}
 use Rattle.std.proofs.lemmas.Bool.{cond_both, and_parts, not-false, true≢false, false≢true}
 use Rattle.records.proofs.Unless.{granted}
 use Rattle.venue.specs.declared.rows.Symbol.{Symbol}
@@ -21,11 +21,11 @@ abbrev place : Request → ℕ
 place r = r.place
 
 -- all places of a list of requests are below m, said by index and by recursion
-to_all : (m : ℕ) (rs : List Request) → ((i : ℕ) → i < length rs → place (get_or rs i no_request) < m) → All (λ (p : ℕ). p < m) (map place rs)
+to_all : (m : ℕ) (rs : List Request) → ((i : ℕ) → i < length rs → place (get_or rs i no_request) < m) → Every (λ (p : ℕ). p < m) (map place rs)
 to_all m [] h = tt
 to_all m (r ∷ rs) h = (h 0 (omega arith), to_all m rs (λ i k. h (suc i) (omega arith)))
 
-from_all : (m : ℕ) (rs : List Request) → All (λ (p : ℕ). p < m) (map place rs) → (i : ℕ) → i < length rs → place (get_or rs i no_request) < m
+from_all : (m : ℕ) (rs : List Request) → Every (λ (p : ℕ). p < m) (map place rs) → (i : ℕ) → i < length rs → place (get_or rs i no_request) < m
 from_all m [] h i k = absurd (omega arith)
 from_all m (r ∷ rs) h zero k = h.0
 from_all m (r ∷ rs) h (suc i) k = from_all m rs h.1 i (omega arith)
@@ -55,7 +55,7 @@ open_some (r ∷ rs) n h = omega arith
 pub owned_some : (d : Day) (u n : ℕ) → owns d u n ≡ true → 0 < length d.requests
 owned_some d u n h = open_some d.requests n (and_parts _ _ h).0
 
-new_placed : (d : Day) (c : Call) → judge d c ≡ Ok tt → All (λ (p : ℕ). p < length d.symbols) (map place (new_requests d c))
+new_placed : (d : Day) (c : Call) → judge d c ≡ Ok tt → Every (λ (p : ℕ). p < length d.symbols) (map place (new_requests d c))
 new_placed d (enter e) v =
     let g = (granted (causes d (enter e)) tt tt v).0 in
     let below = place_some 0 d.symbols e.name (known _ (is_name e.name) _ (is_some (place_of d e.name)) g.1.1.0 g.1.1.1.1.0) in
@@ -115,8 +115,8 @@ pub placed_after : (d : Day) (c : Call) → Placed d → judge d c ≡ Ok tt →
 placed_after d c p v =
     let same = same_symbols d c in
     let m = length d.symbols in
-    let rows : All (λ (q : ℕ). q < m) (map place (apply d c).requests) =
-    subst (All (λ (q : ℕ). q < m)) (sym (requests_after place (λ l r. refl) d c))
+    let rows : Every (λ (q : ℕ). q < m) (map place (apply d c).requests) =
+    subst (Every (λ (q : ℕ). q < m)) (sym (requests_after place (λ l r. refl) d c))
     (all_append (λ (q : ℕ). q < m) (map place d.requests) (map place (new_requests d c)) (to_all m d.requests p.0) (new_placed d c v)) in
     let many : length (apply d c).symbols ≡ m = ap length same in (
       λ i k. let here = from_all m (apply d c).requests rows i k in omega arith,

@@ -1,7 +1,7 @@
 -- There is always room for the trades of an acceptance. Assumes nothing.
 use Rattle.std.proofs.Common.{◌≡◌, ℕ, zero, suc, ◌+◌, ◌-◌, ◌<◌, ◌≤◌, min, Bool, true, false, cond, not, ◌&&◌, eqb, ltb, leb, ◌≢◌, ◌⊎◌, List, [], ◌∷◌, ◌++◌, map, length, get_or, set, Ok, Err, Result, sym, refl, ap, ◌∙◌, subst, inl, inr, ⊎_elim, append-nil, arith, length-append, eqb-true}
 use lib.ListN.{length-map}
-use Rattle.std.specs.List.{AllByRecursion as All}
+use Rattle.std.specs.List.{AllByRecursion as Every}
 use Rattle.std.proofs.lemmas.Bool.{and_parts, or_parts, not-false, leb-true, leb-false, ltb-true}
 use Rattle.std.proofs.lemmas.Bool.Decides.{nat_tests}
 use Rattle.records.specs.declared.causes.Cause.TheVariants.{DayFull}
@@ -89,7 +89,7 @@ one_empty o m = by_test (leb o m) refl
     by_test false e = let h = leb-false o m e in inl (omega arith)
 
 -- every trade of the turns takes one free quote away
-turns_free : (d : Day) (os ns : List ℕ) (n o : ℕ) (rs : List ℕ) (cs : List Candidate) (ts : List Trade) (o' : ℕ) (rs' : List ℕ) → Turns d n o rs cs ts o' rs' → All (Standing d n ns) cs → length ts + free (with_open os n o') ns rs' ≤ free (with_open os n o) ns rs
+turns_free : (d : Day) (os ns : List ℕ) (n o : ℕ) (rs : List ℕ) (cs : List Candidate) (ts : List Trade) (o' : ℕ) (rs' : List ℕ) → Turns d n o rs cs ts o' rs' → Every (Standing d n ns) cs → length ts + free (with_open os n o') ns rs' ≤ free (with_open os n o) ns rs
 turns_free d os ns n o rs cs ts o' rs' (finished _ _) s = omega arith
 turns_free d os ns n o rs cs ts o' rs' (passed _ _ c cs' _ _ _ h t) s = turns_free d os ns n o rs cs' ts o' rs' t s.1
 turns_free d os ns n o rs cs ts o' rs' (traded _ _ c cs' ts' _ _ h k t) s =
@@ -105,7 +105,7 @@ turns_free d os ns n o rs cs ts o' rs' (traded _ _ c cs' ts' _ _ h k t) s =
     omega arith
 
 -- the same open quantities, the same free ones
-free_same : (w v : ℕ → ℕ) (ns ms : List ℕ) → All (λ n. v n ≡ w n) ns → free v ns ms ≡ free w ns ms
+free_same : (w v : ℕ → ℕ) (ns ms : List ℕ) → Every (λ n. v n ≡ w n) ns → free v ns ms ≡ free w ns ms
 free_same w v [] ms h = refl
 free_same w v (n ∷ ns) [] h = refl
 free_same w v (n ∷ ns) (m ∷ ms) h = let here : is_free v n m ≡ is_free w n m = ap (λ x. cond (leb 1 m && leb 1 x) 1 0) h.0 in let rest = free_same w v ns ms h.1 in omega arith
@@ -116,14 +116,14 @@ free_push w [] (k ∷ ms) n m h = absurd (omega arith)
 free_push w (k ∷ ns) [] n m h = absurd (omega arith)
 free_push w (k ∷ ns) (l ∷ ms) n m h = let rest = free_push w ns ms n m (omega arith) in omega arith
 
-every : {X : Type 0} (P : X → Type 0) → ((x : X) → P x) → (xs : List X) → All P xs
+every : {X : Type 0} (P : X → Type 0) → ((x : X) → P x) → (xs : List X) → Every P xs
 every P f [] = tt
 every P f (x ∷ xs) = (f x, every P f xs)
 
 -- the quotes' requests are there, their minimums are at least 1, and there are no more trades than quotes that are not free
 pub record Room (opens asks leasts remains : List ℕ) (trades : ℕ) : Type 0 where
-  pub within : All (λ n. n ≤ length opens) asks
-  pub least : All (λ m. 1 ≤ m) leasts
+  pub within : Every (λ n. n ≤ length opens) asks
+  pub least : Every (λ m. 1 ≤ m) leasts
   pub spare : trades + free (numbered 0 opens) asks remains ≤ length asks
   pub full : length asks ≤ 512
 
@@ -180,7 +180,7 @@ with_old os n k = by_test (eqb n k) refl
     by_test false t = refl
 
 -- after the turns of quotes that stand there are as many trades more as there are free quotes fewer
-turns_spare : (d : Day) (os ns : List ℕ) (n : ℕ) (rs : List ℕ) (cs : List Candidate) (ts : List Trade) (o' : ℕ) (rs' : List ℕ) → Turns d n (numbered 0 os n) rs cs ts o' rs' → All (Standing d n ns) cs → length ts + free (numbered 0 (renumbered os n o')) ns rs' ≤ free (numbered 0 os) ns rs
+turns_spare : (d : Day) (os ns : List ℕ) (n : ℕ) (rs : List ℕ) (cs : List Candidate) (ts : List Trade) (o' : ℕ) (rs' : List ℕ) → Turns d n (numbered 0 os n) rs cs ts o' rs' → Every (Standing d n ns) cs → length ts + free (numbered 0 (renumbered os n o')) ns rs' ≤ free (numbered 0 os) ns rs
 turns_spare d os ns n rs cs ts o' rs' t s =
     let sum = turns_add d n _ rs cs ts o' rs' t in
     let new = free_same (with_open os n o') (numbered 0 (renumbered os n o')) ns rs' (every (λ k. numbered 0 (renumbered os n o') k ≡ with_open os n o' k) (λ k. renumbered_is os n o' k (omega arith)) ns) in
@@ -188,7 +188,7 @@ turns_spare d os ns n rs cs ts o' rs' t s =
     let less = turns_free d os ns n _ rs cs ts o' rs' t s in
     omega arith
 
-room_traded : (d : Day) (os ns ns' ls ls' : List ℕ) (n : ℕ) (rs : List ℕ) (cs : List Candidate) (ts : List Trade) (o' : ℕ) (rs' : List ℕ) (k k' : ℕ) → Turns d n (numbered 0 os n) rs cs ts o' rs' → All (Standing d n ns) cs → ns' ≡ ns ++ [] → ls' ≡ ls ++ [] → k' ≡ k + length ts → Room os ns ls rs k → Room (renumbered os n o') ns' ls' rs' k'
+room_traded : (d : Day) (os ns ns' ls ls' : List ℕ) (n : ℕ) (rs : List ℕ) (cs : List Candidate) (ts : List Trade) (o' : ℕ) (rs' : List ℕ) (k k' : ℕ) → Turns d n (numbered 0 os n) rs cs ts o' rs' → Every (Standing d n ns) cs → ns' ≡ ns ++ [] → ls' ≡ ls ++ [] → k' ≡ k + length ts → Room os ns ls rs k → Room (renumbered os n o') ns' ls' rs' k'
 room_traded d os ns ns' ls ls' n rs cs ts o' rs' k k' t s en el ek r =
     room_same (renumbered os n o') ns ns' ls ls' rs' (k + length ts) k' en el ek
     (record {
@@ -221,7 +221,7 @@ live_in [] (suc i) h = let z : ◌≡◌ {A = ℕ} 0 1 = cc in absurd (omega ari
 live_in (x ∷ qs) (suc zero) h = (omega arith, omega arith)
 live_in (x ∷ qs) (suc (suc i)) h = let e = (live_in qs (suc i) h).1 in (omega arith, omega arith)
 
-all_at : (P : ℕ → Type 0) (xs : List ℕ) (n : ℕ) → 1 ≤ n → n ≤ length xs → All P xs → P (numbered 0 xs n)
+all_at : (P : ℕ → Type 0) (xs : List ℕ) (n : ℕ) → 1 ≤ n → n ≤ length xs → Every P xs → P (numbered 0 xs n)
 all_at P xs zero h k a = absurd (omega arith)
 all_at P [] (suc i) h k a = absurd (omega arith)
 all_at P (x ∷ xs) (suc zero) h k a = a.0
@@ -244,7 +244,7 @@ standing d n c r f =
       least = subst (λ m. 1 ≤ m) (sym (number_of (λ x. x.minimum) no_quote refl d.quotes q)) (all_at (λ m. 1 ≤ m) (leasts d.quotes) q first (omega arith) r.least);
     }
 
-all_standing : (d : Day) (n : ℕ) (qs : List ℕ) → room d → has_inexecutable d n qs ≡ false → All (Standing d n (asks d.quotes)) (in_order d n (once qs))
+all_standing : (d : Day) (n : ℕ) (qs : List ℕ) → room d → has_inexecutable d n qs ≡ false → Every (Standing d n (asks d.quotes)) (in_order d n (once qs))
 all_standing d n qs r h = all_by (Fit d n) (Standing d n (asks d.quotes)) (in_order d n (once qs)) (λ c f. standing d n c r f) (fit_line d n qs h)
 
 asks_after : (d : Day) (c : Call) → asks (apply d c).quotes ≡ asks d.quotes ++ asks (new_quotes c)

@@ -1,6 +1,6 @@
 -- Which refusal comes. Assumes nothing.
 use Rattle.std.proofs.Common.{◌≡◌, ℕ, ◌≤◌, Bool, true, false, cond, List, [], ◌∷◌, Err, Result, refl, ap, subst, inl, inr, arith, lit≤}
-use Rattle.std.specs.List.{AllByRecursion as All}
+use Rattle.std.specs.List.{AllByRecursion as Every}
 use Rattle.records.specs.declared.causes.Cause.{Cause}
 use Rattle.records.specs.Causes.{number, unless}
 use Rattle.records.proofs.Unless.{grants}
@@ -18,9 +18,9 @@ when_granted d c h = grants (causes d c) tt h
 -- the numbers of a list of causes go up
 abbrev Ascends : List (Cause × Bool) → Type 0
 Ascends [] = Unit {0}
-Ascends (x ∷ xs) = All (λ y. number x.0 ≤ number y.0) xs × Ascends xs
+Ascends (x ∷ xs) = Every (λ y. number x.0 ≤ number y.0) xs × Ascends xs
 
-below : (n : ℕ) (xs : List (Cause × Bool)) → All (λ y. n ≤ number y.0) xs → All (λ y. y.1 ≡ true → n ≤ number y.0) xs
+below : (n : ℕ) (xs : List (Cause × Bool)) → Every (λ y. n ≤ number y.0) xs → Every (λ y. y.1 ≡ true → n ≤ number y.0) xs
 below n [] h = tt
 below n (x ∷ xs) h = (λ t. h.0, below n xs h.1)
 
@@ -38,7 +38,7 @@ first_is_least (x ∷ xs) e a h = by_test x.1 refl h (first_is_least xs e a.1)
     by_test : (b : Bool) → x.1 ≡ b → cond b (Err x.0) (verdict xs) ≡ Err e → (verdict xs ≡ Err e → LeastCause e xs) → LeastCause e (x ∷ xs)
     by_test true t k rest =
         let is = same_cause x.0 e k in
-        record { holds = inl (is, t); least = subst (λ c. All (λ y. y.1 ≡ true → number c ≤ number y.0) (x ∷ xs)) is (λ u. omega arith, below (number x.0) xs a.0) }
+        record { holds = inl (is, t); least = subst (λ c. Every (λ y. y.1 ≡ true → number c ≤ number y.0) (x ∷ xs)) is (λ u. omega arith, below (number x.0) xs a.0) }
     by_test false t k rest =
         let r = rest k in
         record { holds = inr r.holds; least = (λ u. let z : ◌≡◌ {A = ℕ} 0 1 = cc in absurd (omega arith), r.least) }

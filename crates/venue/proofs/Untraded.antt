@@ -1,7 +1,7 @@
 -- What is known of trades that came before, and that an acceptance which is carried out trades on its request.
 -- Assumes nothing.
 use Rattle.std.proofs.Common.{◌≡◌, ℕ, zero, suc, ◌+◌, ◌-◌, ◌≤◌, true, false, not, leb, List, [], ◌∷◌, ◌++◌, get_or, set, Ok, Err, Result, sym, ap, ◌∙◌, arith}
-use Rattle.std.specs.List.{AllByRecursion as All}
+use Rattle.std.specs.List.{AllByRecursion as Every}
 use Rattle.std.proofs.lemmas.Bool.{both_ways, and_parts, or_parts, not-false, leb-true, ltb-false}
 use Rattle.records.specs.declared.causes.Refusal.{Refusal}
 use Rattle.records.proofs.Unless.{granted}
@@ -17,30 +17,30 @@ use Rattle.venue.proofs.Dealing.{all_by, new_good}
 use Rattle.venue.proofs.Replies.{judged}
 
 module _ {X : Type 0} (P : X → Type 0) where
-  all_front : (xs ys : List X) → All P (xs ++ ys) → All P xs
+  all_front : (xs ys : List X) → Every P (xs ++ ys) → Every P xs
   all_front [] ys h = tt
   all_front (x ∷ xs) ys h = (h.0, all_front xs ys h.1)
 
-  all_back : (xs ys : List X) → All P (xs ++ ys) → All P ys
+  all_back : (xs ys : List X) → Every P (xs ++ ys) → Every P ys
   all_back [] ys h = h
   all_back (x ∷ xs) ys h = all_back xs ys h.1
 
 -- trades are added and marked, and none is taken away: what holds of all later held of all before
 module _ (P : Trade → Type 0) (f : (t : Trade) → P (filed_trade t) → P t) where
-  before_set : (ts : List Trade) (i : ℕ) → All P (set ts i (filed_trade (get_or ts i no_trade))) → All P ts
+  before_set : (ts : List Trade) (i : ℕ) → Every P (set ts i (filed_trade (get_or ts i no_trade))) → Every P ts
   before_set [] i h = tt
   before_set (t ∷ ts) zero h = (f t h.0, h.1)
   before_set (t ∷ ts) (suc i) h = (h.0, before_set ts i h.1)
 
-  before_mark : (ts : List Trade) (n : ℕ) → All P (renumbered ts n (filed_trade (numbered no_trade ts n))) → All P ts
+  before_mark : (ts : List Trade) (n : ℕ) → Every P (renumbered ts n (filed_trade (numbered no_trade ts n))) → Every P ts
   before_mark ts zero h = h
   before_mark ts (suc i) h = before_set ts i h
 
-  before_filing : (m : ℕ) (ts : List Trade) (t : ℕ) → All P (filed ts t m) → All P ts
+  before_filing : (m : ℕ) (ts : List Trade) (t : ℕ) → Every P (filed ts t m) → Every P ts
   before_filing zero ts t h = h
   before_filing (suc m) ts t h = before_mark ts t (before_filing m _ (t + 1) h)
 
-  before_call : (d : Day) (c : Call) → All P (apply d c).trades → All P d.trades
+  before_call : (d : Day) (c : Call) → Every P (apply d c).trades → Every P d.trades
   before_call d (enter e) h = h
   before_call d (offer o) h = h
   before_call d (pull u q) h = h
@@ -54,16 +54,16 @@ module _ (P : Trade → Type 0) (f : (t : Trade) → P (filed_trade t) → P t) 
   before_call d (book u n room) h = h
   before_call d close h = h
 
-  before_next : (d : Day) (c : Call) (q : Result Reply Refusal) → All P (next_by d c q).trades → All P d.trades
+  before_next : (d : Day) (c : Call) (q : Result Reply Refusal) → Every P (next_by d c q).trades → Every P d.trades
   before_next d c (Ok r) h = before_call d c h
   before_next d c (Err e) h = h
 
-  pub before_calls : (cs : List Call) (d : Day) → All P (after d cs).trades → All P d.trades
+  pub before_calls : (cs : List Call) (d : Day) → Every P (after d cs).trades → Every P d.trades
   before_calls [] d h = h
   before_calls (c ∷ cs) d h = before_next d c (answer d c) (before_calls cs (next d c) h)
 
 module _ (ns : List ℕ) where
-  trades_on : (n : ℕ) (ts : List Trade) → member n ns ≡ true → 1 ≤ total ts → All (λ t. t.request ≡ n) ts → Untraded ns ts → ⊥
+  trades_on : (n : ℕ) (ts : List Trade) → member n ns ≡ true → 1 ≤ total ts → Every (λ t. t.request ≡ n) ts → Untraded ns ts → ⊥
   trades_on n [] m h on u = omega arith
   trades_on n (t ∷ ts) m h on u = both_ways (member n ns) (ap (λ k. member k ns) (sym on.0) ∙ u.0) m
 

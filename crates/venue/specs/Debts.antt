@@ -2,7 +2,7 @@
 -- them, the unfiled trades are exactly those on the debts that are out, each on one.
 -- Assumes nothing.
 use Rattle.std.specs.Prelude.{◌≡◌, ℕ, zero, suc, ◌+◌, Bool, true, false, cond, ◌&&◌, ◌≢◌, List, [], ◌∷◌, ◌++◌, map, Some, None, Ok, Err, Option, Result, ◌==◌, nat_le, slice_set}
-use Rattle.std.specs.List.{AllByRecursion as All}
+use Rattle.std.specs.List.{AllByRecursion as Every}
 use Rattle.records.specs.declared.causes.Refusal.{Refusal}
 use Rattle.venue.specs.declared.rows.Report.{Report}
 use Rattle.venue.specs.declared.rows.Trade.{Trade}
@@ -96,7 +96,7 @@ covered (r ∷ rs) day t = covers r day t + covered rs day t
 -- no two with the same number
 abbrev pub Different : List Day → Type 0
 Different [] = Unit {0}
-Different (d ∷ ds) = All (λ e. e.number ≢ d.number) ds × Different ds
+Different (d ∷ ds) = Every (λ e. e.number ≢ d.number) ds × Different ds
 
 -- each unfiled trade is on one debt that is out, and no other number is on any
 abbrev pub Balanced : List Report → Day → Type 0
@@ -107,7 +107,7 @@ Debts =
     (os : List Opening)
     → Different (map open_day os)
     → (es : List Event)
-    → let w : World = steps (record { days = map open_day os; debts = [] }) es in All (Balanced w.debts) w.days
+    → let w : World = steps (record { days = map open_day os; debts = [] }) es in Every (Balanced w.debts) w.days
 
 -- two days of which the first trades three times: the debt is refused by the second day and stays out, and is brought back
 -- by the first

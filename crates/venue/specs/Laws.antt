@@ -2,7 +2,7 @@
 -- Assumes nothing.
 use Rattle.std.specs.Prelude.{◌≡◌, ℕ, ◌+◌, ◌-◌, ◌<◌, ◌≤◌, min, Bool, true, false, ◌⊎◌, List, [], ◌∷◌, map, Ok, Err}
 use Rattle.std.specs.List.Sorted.{IsPermutation}
-use Rattle.std.specs.List.{AllByRecursion as All}
+use Rattle.std.specs.List.{AllByRecursion as Every}
 use Rattle.records.specs.declared.causes.Cause.{Cause}
 use Rattle.records.specs.declared.causes.Refusal.{Refusal}
 use Rattle.records.specs.Causes.{number}
@@ -27,14 +27,14 @@ Among e (x ∷ xs) = ((x.0 ≡ e) × (x.1 ≡ true)) ⊎ Among e xs
 -- no refusal comes without its cause, and none while a cause with a smaller number stands
 pub record LeastCause (e : Cause) (cs : List (Cause × Bool)) : Type 0 where
   pub holds : Among e cs
-  pub least : All (λ x. x.1 ≡ true → number e ≤ number x.0) cs
+  pub least : Every (λ x. x.1 ≡ true → number e ≤ number x.0) cs
 
 abbrev pub ToldCauses : Type 0
 ToldCauses = (d : Day) (c : Call) (e : Cause) → judge d c ≡ Err e → LeastCause e (causes d c)
 
 -- where no cause holds, the call is answered
 abbrev pub Granted : Type 0
-Granted = (d : Day) (c : Call) → All (λ x. x.1 ≡ false) (causes d c) → judge d c ≡ Ok tt
+Granted = (d : Day) (c : Call) → Every (λ x. x.1 ≡ false) (causes d c) → judge d c ≡ Ok tt
 
 -- a lower price is better for a buyer, a higher one for a seller
 abbrev pub Better : Side → ℕ → ℕ → Type 0
@@ -52,7 +52,7 @@ Ahead side x y =
 -- each stands so to all that follow it
 abbrev pub Pairwise : {X : Type 0} → (X → X → Type 0) → List X → Type 0
 Pairwise R [] = Unit {0}
-Pairwise R (x ∷ xs) = All (R x) xs × Pairwise R xs
+Pairwise R (x ∷ xs) = Every (R x) xs × Pairwise R xs
 
 -- the order of quotes is by the four keys, and has the quotes that were put into it and no others
 abbrev pub SortedQuotes : Type 0

@@ -1,7 +1,7 @@
 -- The law of quantities: what is open and what was traded make up what was entered, and every trade is a good one.
 -- Assumes nothing.
 use Rattle.std.specs.Prelude.{◌≡◌, ℕ, ◌+◌, ◌≤◌, true, false, cond, List, [], ◌∷◌, ◌++◌, map, length, Some, None, Ok, ◌==◌}
-use Rattle.std.specs.List.{AllByRecursion as All}
+use Rattle.std.specs.List.{AllByRecursion as Every}
 use Rattle.venue.specs.declared.rows.Acceptance.{Acceptance}
 use Rattle.venue.specs.declared.rows.Entry.{Entry}
 use Rattle.venue.specs.declared.rows.Life.TheVariants.{Open}
@@ -129,7 +129,7 @@ pub record Made (start : Day) (cs : List Call) (t : Trade) : Type 0 where
   pub good : Good (after start before) deal t
 
 abbrev pub TradesAreGood : Type 0
-TradesAreGood = (o : Opening) (cs : List Call) → All (Made (open_day o) cs) (after (open_day o) cs).trades
+TradesAreGood = (o : Opening) (cs : List Call) → Every (Made (open_day o) cs) (after (open_day o) cs).trades
 
 -- a request of 8,500 of which 7,000 are traded with two of three quotes, and what is left is open
 abbrev pub keep_rest : Call

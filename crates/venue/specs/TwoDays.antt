@@ -3,7 +3,7 @@
 -- Assumes nothing.
 use Rattle.std.specs.Prelude.{◌≡◌, ℕ, ◌+◌, ◌<◌, true, false, ◌≢◌, List, [], ◌∷◌, map, length, is_some, Some, None, Ok, Err, Option, Result}
 use Rattle.std.specs.Result.{result_ok}
-use Rattle.std.specs.List.{AllByRecursion as All}
+use Rattle.std.specs.List.{AllByRecursion as Every}
 use Rattle.records.specs.declared.causes.Refusal.{Refusal}
 use Rattle.venue.specs.declared.rows.Entry.{Entry}
 use Rattle.venue.specs.declared.rows.Trade.{Trade}
@@ -80,7 +80,7 @@ caller (book u n room) = Some u
 caller close = None
 
 abbrev pub Untraded : List ℕ → List Trade → Type 0
-Untraded ns ts = All (λ t. member t.request ns ≡ false) ts
+Untraded ns ts = Every (λ t. member t.request ns ≡ false) ts
 
 -- the two days up to a place, and a call there by somebody who made none of the changed entries
 pub record TwoDays (start : Day) (ps : List Place) (c : Call) : Type 0 where
