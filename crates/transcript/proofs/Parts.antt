@@ -13,7 +13,7 @@ use Rattle.records.specs.Reading.{absent_of, answer_of, end_of, fields_in, kind_
 use Rattle.listing.specs.Listing.{next_by}
 use Rattle.transcript.specs.Runs.{State, State.setting, State.running, Done, done, out_of_part}
 use Rattle.transcript.specs.Texts.{asked_by, turn_by}
-use Rattle.transcript.specs.Laws.{ends_run, Goes_on, takes, Parts}
+use Rattle.transcript.specs.Laws.{ends_run, GoesOn, takes, Parts}
 
 -- the reader's causes, and the first three of them, which leave the end of a record unknown
 abbrev all_five : Bool → Bool → Bool → Bool → Bool → List (Cause × Bool)
@@ -30,7 +30,7 @@ by_tests false false false true e at k n r = refl
 by_tests false false false false true at k n r = refl
 by_tests false false false false false at k n r = refl
 
-pub goes_on : Goes_on
+pub goes_on : GoesOn
 goes_on s at =
     let t = drop at s in
     by_tests (ltb 0 (length t) && no_kind (kind_in t)) (ltb (length t) (length_in t)) (foreign (slots_of (kind_in t)) (map_in t)) (absent_of (kind_in t) (map_in t)) (wrong (record_in t) (fields_in t)) at (get_or t 0 0) (length_in t) (record_in t)

@@ -19,8 +19,8 @@ ends_run (Ok q) = false
 ends_run (Err e) = nat_le (number e.cause) 3
 
 -- after 1, 2 or 3 a run ends; after anything else it goes on where the standing fields of the record end
-abbrev pub Goes_on : Type 0
-Goes_on =
+abbrev pub GoesOn : Type 0
+GoesOn =
     (s : List ℕ) (at : ℕ)
     → next_at s at ≡ cond (ends_run (read_answer s at)) None (Some (at + length_in (drop at s)))
 

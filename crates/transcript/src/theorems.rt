@@ -1,6 +1,6 @@
 // Theorems about the text of a file, each on the contract of a function. What the functions return says nothing.
 ghost use Rattle.transcript.specs.Example.{Example, WholeDay};
-ghost use Rattle.transcript.specs.Laws.{Files, Goes_on, Parts};
+ghost use Rattle.transcript.specs.Laws.{Files, GoesOn, Parts};
 
 /// The file of five records gives its five lines, and a whole day gives a line for each record up to a letter of no kind.
 pub fn examples_stand() -> u8
@@ -12,7 +12,7 @@ pub fn examples_stand() -> u8
 
 /// A run goes on behind each record unless it was refused by 1, 2 or 3.
 pub fn runs_end() -> u8
-    ensures { Goes_on }
+    ensures { GoesOn }
 {
     0
 }
