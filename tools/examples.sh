@@ -1,9 +1,9 @@
 #!/usr/bin/env bash
 # Plays every day of examples/ and compares what is printed with the text beside it. A line for each; fails on a difference.
 #
-#     bash tools/examples.sh [PROGRAM]        PROGRAM is target/bin/dayrun if it is left out
+#     bash tools/examples.sh [PROGRAM]        PROGRAM is crates/dayrun/out/dayrun if it is left out
 set -u
-program=$(realpath -m "${1:-$(dirname "$0")/../target/bin/dayrun}")
+program=$(realpath -m "${1:-$(dirname "$0")/../crates/dayrun/out/dayrun}")
 cd "$(dirname "$0")/.." || exit 1
 [ -x "$program" ] || { echo "no program $program"; exit 1; }
 

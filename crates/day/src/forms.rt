@@ -38,8 +38,9 @@ pub struct Closed<S: Source> {
 
 /// A close that was refused, and the day as it was.
 pub struct Refused<S: Source> {
-    pub refusal: Refusal,
+    // The day stands first, where a closed one would: LLVM takes very long over a result that holds a day at two places.
     pub day: Trading<S>,
+    pub refusal: Refusal,
 }
 
 /// The trades of an acceptance that are to be reported. It can be neither copied nor let go: it is filed, once.
