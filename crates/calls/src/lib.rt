@@ -3,7 +3,7 @@
 
 ghost use Rattle.std.specs.Prelude.{◌≡◌, ◌<◌};
 ghost use Rattle.venue.specs.Days.{bit};
-ghost use Rattle.calls.specs.Made.{acceptance_of, entry_of, new_symbol_of, new_user_of, offering_of, posting_of, price_question_of, quotes_of, where_stands};
+ghost use Rattle.calls.specs.Made.{acceptance_of as acceptance_made, entry_of as entry_made, new_symbol_of as new_symbol_made, new_user_of as new_user_made, offering_of as offering_made, posting_of as posting_made, price_question_of as price_question_made, quotes_of as quotes_made, where_stands as if_standing};
 
 use records::parts::Record;
 use venue::rows::{Acceptance, Entry, NewSymbol, NewUser, Offering, Posting, PriceQuestion};
@@ -19,14 +19,14 @@ fn stands(map: u16, i: u32) -> bool
 /// A value, where its bit of a map stands.
 fn where_stands<T: Copy>(map: u16, i: u32, value: T) -> Option<T>
     requires { i < 16 }
-    ensures { result ≡ where_stands map i value }
+    ensures { result ≡ if_standing map i value }
 {
     if stands(map, i) { Some(value) } else { None }
 }
 
 /// The user of a record U.
 pub fn new_user_of(fields: &Record) -> NewUser
-    ensures { result ≡ new_user_of fields.now }
+    ensures { result ≡ new_user_made fields.now }
 {
     NewUser {
         user: fields.user,
@@ -37,7 +37,7 @@ pub fn new_user_of(fields: &Record) -> NewUser
 
 /// The symbol of a record S.
 pub fn new_symbol_of(fields: &Record) -> NewSymbol
-    ensures { result ≡ new_symbol_of fields.now }
+    ensures { result ≡ new_symbol_made fields.now }
 {
     NewSymbol {
         name: fields.name,
@@ -48,7 +48,7 @@ pub fn new_symbol_of(fields: &Record) -> NewSymbol
 
 /// The entry of a record R.
 pub fn entry_of(fields: &Record) -> Entry
-    ensures { result ≡ entry_of fields.now }
+    ensures { result ≡ entry_made fields.now }
 {
     Entry {
         user: fields.user,
@@ -65,7 +65,7 @@ pub fn entry_of(fields: &Record) -> Entry
 
 /// The quote of a record Q.
 pub fn offering_of(fields: &Record) -> Offering
-    ensures { result ≡ offering_of fields.now }
+    ensures { result ≡ offering_made fields.now }
 {
     Offering {
         user: fields.user,
@@ -81,7 +81,7 @@ pub fn offering_of(fields: &Record) -> Offering
 
 /// The quotes that a record A names.
 fn quotes_of(fields: &Record) -> [Option<u16>; 8]
-    ensures { result ≡ quotes_of fields.now }
+    ensures { result ≡ quotes_made fields.now }
 {
     [
         where_stands(fields.map, 4, fields.quote),
@@ -97,7 +97,7 @@ fn quotes_of(fields: &Record) -> [Option<u16>; 8]
 
 /// The acceptance of a record A.
 pub fn acceptance_of(fields: &Record) -> Acceptance
-    ensures { result ≡ acceptance_of fields.now }
+    ensures { result ≡ acceptance_made fields.now }
 {
     Acceptance {
         user: fields.user,
@@ -110,7 +110,7 @@ pub fn acceptance_of(fields: &Record) -> Acceptance
 
 /// The posting of a record M.
 pub fn posting_of(fields: &Record) -> Posting
-    ensures { result ≡ posting_of fields.now }
+    ensures { result ≡ posting_made fields.now }
 {
     Posting {
         name: fields.name,
@@ -121,7 +121,7 @@ pub fn posting_of(fields: &Record) -> Posting
 
 /// The question of a record K.
 pub fn price_question_of(fields: &Record) -> PriceQuestion
-    ensures { result ≡ price_question_of fields.now }
+    ensures { result ≡ price_question_made fields.now }
 {
     PriceQuestion {
         name: fields.name,

@@ -1,8 +1,7 @@
 -- The line of a record: its count, its place, its kind and its fields by name as a person reads them; and the line of a
 -- refusal, with its number, its layer and its place.
 -- Assumes nothing.
-use Rattle.std.specs.Prelude.{ℕ, zero, suc, ◌+◌, ◌/◌, ◌%◌, Bool, cond, not, ◌&&◌, List, [], ◌∷◌, ◌++◌, codes, decimal, ◌==◌, nat_le, nat_lt}
-use Rattle.std.proofs.Math.Utf8.{encode}
+use Rattle.std.specs.Prelude.{ℕ, zero, suc, ◌+◌, ◌/◌, ◌%◌, Bool, cond, not, ◌&&◌, List, [], ◌∷◌, ◌++◌, codes, decimal, ◌==◌, nat_le, nat_lt, encode_utf8}
 use Rattle.std.specs.List.{flat_map}
 use Rattle.records.specs.declared.causes.Refusal.{Refusal}
 use Rattle.records.specs.declared.parts.Field.{Field}
@@ -101,7 +100,7 @@ number_text Mark n = decimal n
 
 -- the letter, and the number where that is L
 abbrev pub price_text : Price → List ℕ
-price_text p = encode p.letter ++ only (p.letter == 76) (decimal p.number)
+price_text p = encode_utf8 p.letter ++ only (p.letter == 76) (decimal p.number)
 
 abbrev pub digit : ℕ → ℕ
 digit d = cond (nat_lt d 10) (48 + d) (87 + d)
@@ -122,7 +121,7 @@ name_text bs = 34 ∷ (flat_map sign bs ++ 34 ∷ [])
 
 abbrev pub value_text : Shape → Value → List ℕ
 value_text s (Number n) = number_text s n
-value_text s (Letter c) = encode c
+value_text s (Letter c) = encode_utf8 c
 value_text s (Quoted p) = price_text p
 value_text s (Name bs) = name_text bs
 value_text s (Letters bs) = bs
@@ -131,7 +130,7 @@ abbrev pub field_text : Record → Field → List ℕ
 field_text r f = codes " " ++ (label f ++ (codes "=" ++ value_text (shape f) (value f r)))
 
 abbrev pub head_text : ℕ → ℕ → ℕ → List ℕ
-head_text count at k = decimal count ++ (codes " " ++ (decimal at ++ (codes " " ++ encode k)))
+head_text count at k = decimal count ++ (codes " " ++ (decimal at ++ (codes " " ++ encode_utf8 k)))
 
 -- the line of a record that was read, with the fields that stand in it
 abbrev pub record_line : ℕ → ℕ → ℕ → Record → List ℕ
@@ -140,7 +139,7 @@ record_line count at k r = head_text count at k ++ (flat_map (field_text r) (fie
 abbrev pub cause_text : Refusal → List ℕ
 cause_text e =
     codes " no "
-    ++ (decimal (number e.cause) ++ (codes " " ++ (encode (layer e.cause) ++ (codes " " ++ (decimal e.place ++ codes "\n")))))
+    ++ (decimal (number e.cause) ++ (codes " " ++ (encode_utf8 (layer e.cause) ++ (codes " " ++ (decimal e.place ++ codes "\n")))))
 
 -- the line of a refusal
 abbrev pub refusal_line : ℕ → ℕ → ℕ → Refusal → List ℕ

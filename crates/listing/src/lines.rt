@@ -1,6 +1,5 @@
 // The text of one record: its fields by name, as a person reads them.
-ghost use Rattle.std.specs.Prelude.{◌≡◌, ◌<◌, [], ◌++◌, if◌then◌else◌, codes, decimal, OnOk};
-ghost use Rattle.std.proofs.Math.Utf8.{encode};
+ghost use Rattle.std.specs.Prelude.{◌≡◌, ◌<◌, [], ◌++◌, if◌then◌else◌, codes, decimal, OnOk, encode_utf8};
 ghost use Rattle.std.specs.List.{flat_map};
 ghost use Rattle.records.specs.Bytes.{odd, standing};
 ghost use Rattle.records.specs.Layout.{field_of, kind_of};
@@ -68,7 +67,7 @@ fn add_number(text: &mut Vec<u8>, heap: Global, n: u64) -> Result<(), AllocError
 }
 
 fn add_letter(text: &mut Vec<u8>, heap: Global, letter: char) -> Result<(), AllocError>
-    ensures { OnOk result (text.new.items ≡ text.old.items ++ encode letter) }
+    ensures { OnOk result (text.new.items ≡ text.old.items ++ encode_utf8 letter) }
 {
     let sign = format!(in heap; "{letter}")?;
     text.extend_from_slice(sign.as_bytes())

@@ -2,7 +2,7 @@
 ghost use Rattle.std.specs.Prelude.{◌≡◌, ◌+◌, ◌<◌, ◌≤◌, true, cond, ◌++◌, length, IfOk, Ok, Err, OnOk};
 ghost use Rattle.records.specs.Fields.{blank};
 ghost use Rattle.records.specs.Reading.{read_answer, read_record};
-ghost use Rattle.listing.specs.Listing.{Enough, is_read, letter_at as letter_of, line_at, listing, next_at, same_again as is_same, same_words, totals, Turned};
+ghost use Rattle.listing.specs.Listing.{Enough, is_read, letter_at as letter_of, line_at, listing, next_at, same_again as is_same, same_words as words_of, totals, Turned};
 
 use super::lines::{add_record, add_refusal};
 use records::parts::{Kind, Record};
@@ -53,7 +53,7 @@ fn same_again(bytes: &[u8], kind: char, fields: &Record, buffer: &mut [u8]) -> b
 
 /// What the totals say of the records written back.
 fn same_words(same: bool) -> &'static str
-    ensures { result.now ≡ same_words same }
+    ensures { result.now ≡ words_of same }
 {
     if same {
         " bytes, all written back the same\n"

@@ -1,7 +1,7 @@
 // The lines of a page as records: each field with what the tables and the prices say.
-ghost use Rattle.std.specs.Prelude.{◌≡◌, length, if◌then◌else◌, nat_eq};
+ghost use Rattle.std.specs.Prelude.{◌≡◌, length, if◌then◌else◌, ◌==◌};
 ghost use Rattle.tables.specs.Tabled.{Sound, bare_day, day_of};
-ghost use Rattle.venue.specs.Trading.{is_late};
+ghost use Rattle.venue.specs.Trading.{is_late as is_late_trade};
 ghost use Rattle.venue.specs.Pages.{executable_line, leg_now, name_of, quote_line, request_line, side_letter, trade_line};
 ghost use Rattle.records.specs.Writing.{encode};
 ghost use Rattle.pages.specs.Seats.{Seated};
@@ -98,7 +98,7 @@ pub(crate) fn quote_record<S: Source>(t: &Tables, source: &S, q: u16) -> Record
 /// Whether a trade is late: its value is large, and one of its users may be late.
 fn is_late(t: &Tables, trade: Trade) -> bool
     requires { Sound t.now }
-    ensures { result ≡ is_late (bare_day t.now) trade }
+    ensures { result ≡ is_late_trade (bare_day t.now) trade }
 {
     let large = symbol_at(t, request_at(t, trade.request).place).large;
     let value = u64::from(trade.quantity) * u64::from(trade.price);
@@ -107,7 +107,7 @@ fn is_late(t: &Tables, trade: Trade) -> bool
 
 /// The user's own side of a trade.
 fn own_side(trade: Trade, user: u8) -> char
-    ensures { result ≡ (if nat_eq trade.buyer user then 66 else 83) }
+    ensures { result ≡ (if trade.buyer == user then 66 else 83) }
 {
     if trade.buyer == user { 'B' } else { 'S' }
 }

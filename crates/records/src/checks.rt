@@ -1,6 +1,6 @@
 // What is asked of a record before its fields are taken: which of them stand, and with which letters.
 ghost use Rattle.std.specs.Prelude.{◌≡◌, ◌*◌, ◌/◌, ◌≤◌, not, ◌&&◌, length};
-ghost use Rattle.records.specs.Bytes.{width as width_of_lem, odd, standing, size, foreign as is_foreign, missing as is_missing, incomplete as is_incomplete, absent as is_absent, number_fits, one_of, letters, lrgs, fits as is_fit, wrong as is_wrong, taken as taken_of};
+ghost use Rattle.records.specs.Bytes.{width as width_of, odd, standing, size, foreign as is_foreign, missing as is_missing, incomplete as is_incomplete, absent as is_absent, number_fits, one_of, letters, lrgs, fits as is_fit, wrong as is_wrong, taken as taken_of};
 ghost use Rattle.records.specs.Fields.{value};
 ghost use Rattle.records.specs.Layout.{field_of, may_lack, shape};
 
@@ -9,7 +9,7 @@ use super::parts::{Field, Kind, Price, Record, Shape, Slot, Value};
 impl Shape {
     /// How many bytes a field of the shape takes.
     pub fn width(self) -> usize
-        ensures value { result ≡ width_of_lem self }
+        ensures value { result ≡ width_of self }
         ensures bound { result ≤ 8 }
     {
         match self {

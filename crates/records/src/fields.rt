@@ -1,7 +1,7 @@
 // The fields of a record, got and set by name.
 ghost use Rattle.std.specs.Prelude.{◌≡◌, ◌≤◌, length};
 ghost use Rattle.records.specs.Bytes.{width};
-ghost use Rattle.records.specs.Fields.{byte as byte_of, two as two_of, four as four_of, eight as eight_of, text as text_of, mark as mark_of, price as price_of, value as value_of_lem, decoded, kept, same};
+ghost use Rattle.records.specs.Fields.{byte as byte_of, two as two_of, four as four_of, eight as eight_of, text as text_of, mark as mark_of, price as price_of, value as value_of, decoded, kept, same};
 ghost use Rattle.records.specs.Layout.{shape};
 
 use super::parts::{Field, Price, Record, Value};
@@ -82,7 +82,7 @@ fn price(bytes: &[u8]) -> Price
 impl Record {
     /// What the field holds.
     pub fn value(&self, field: Field) -> Value
-        ensures { result ≡ value_of_lem field self.now }
+        ensures { result ≡ value_of field self.now }
     {
         match field {
             Field::User => Value::Number(u64::from(self.user)),

@@ -1,8 +1,7 @@
 -- The line of a record: its count, its kind, and "ok" with the number given and the bytes of a page, or "no" with the
 -- refusal. Each byte is a space and two hexadecimal digits; all else is decimal.
 -- Assumes nothing.
-use Rattle.std.specs.Prelude.{ℕ, List, ◌++◌, Ok, Err, codes, decimal, Result}
-use Rattle.std.proofs.Math.Utf8.{encode}
+use Rattle.std.specs.Prelude.{ℕ, List, ◌++◌, Ok, Err, codes, decimal, Result, encode_utf8}
 use Rattle.std.specs.List.{flat_map}
 use Rattle.records.specs.declared.causes.Refusal.{Refusal}
 use Rattle.venue.specs.Model.{Reply}
@@ -15,7 +14,7 @@ abbrev pub page_text : List ℕ → List ℕ
 page_text bs = flat_map byte_text bs
 
 abbrev pub head_text : ℕ → ℕ → List ℕ
-head_text count k = decimal count ++ (codes " " ++ encode k)
+head_text count k = decimal count ++ (codes " " ++ encode_utf8 k)
 
 abbrev pub given_text : ℕ → List ℕ → List ℕ
 given_text n page = codes " ok " ++ (decimal n ++ (page_text page ++ codes "\n"))
