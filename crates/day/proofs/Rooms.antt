@@ -1,8 +1,7 @@
 -- What is known of the tables where a call was granted. Assumes nothing.
-use Rattle.std.proofs.Common.{◌≡◌, ℕ, suc, ◌+◌, ◌<◌, List, [], ◌∷◌, length, Some, Ok, unwrap_or, sym, arith, lit<}
-use Rattle.std.specs.Str.{bytes_eq}
+use Rattle.std.proofs.Common.{◌≡◌, ℕ, ◌<◌, List, [], ◌∷◌, length, Ok, unwrap_or, sym, arith, lit<}
 use Rattle.std.proofs.lemmas.List.{length-take-le}
-use Rattle.std.proofs.lemmas.Bool.{cond_both, leb-false}
+use Rattle.std.proofs.lemmas.Bool.{leb-false}
 use Rattle.records.proofs.Unless.{granted}
 use Rattle.venue.specs.declared.rows.Entry.{Entry}
 use Rattle.venue.specs.declared.rows.Offering.{Offering}
@@ -10,6 +9,7 @@ use Rattle.venue.specs.declared.rows.Symbol.{Symbol}
 use Rattle.venue.specs.Days.{place_from, place_of}
 use Rattle.venue.specs.Calls.{Call.enter, Call.offer, causes}
 use Rattle.venue.specs.Model.{judge}
+use Rattle.venue.proofs.Placing.{place_below}
 use Rattle.tables.specs.declared.inner.Tables.{Tables}
 use Rattle.tables.specs.Tabled.{Sound, bare_day}
 
@@ -34,13 +34,6 @@ module _ (t : Tables) (sound : Sound t) where
       omega (arith, quotes_long, leb-false 512 (length (bare_day t).quotes) free)
 
 -- the place of a symbol is one of a source's
-place_below : (i : ℕ) (ss : List Symbol) (bs : List ℕ) → 0 < i + length ss → unwrap_or (place_from i ss bs) 0 < i + length ss
-place_below i [] bs h = h
-place_below i (s ∷ ss) bs h =
-    cond_both (bytes_eq s.name bs) (Some i) (place_from (i + 1) ss bs) (λ o. unwrap_or o 0 < i + suc (length ss))
-    (λ _. omega arith)
-    (λ _. let rest = place_below (i + 1) ss bs (omega arith) in omega arith)
-
 pub place_within : (t : Tables) → Sound t → (bs : List ℕ) → unwrap_or (place_of (bare_day t) bs) 0 < 64
 place_within t sound bs = by_count (bare_day t).symbols (length-take-le t.symbol_count t.symbols (omega arith))
   where

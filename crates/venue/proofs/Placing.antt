@@ -30,14 +30,18 @@ from_all m [] h i k = absurd (omega arith)
 from_all m (r ∷ rs) h zero k = h.0
 from_all m (r ∷ rs) h (suc i) k = from_all m rs h.1 i (omega arith)
 
--- the place of a name that some symbol has
-place_some : (i : ℕ) (ss : List Symbol) (bs : List ℕ) → is_some (place_from i ss bs) ≡ true → unwrap_or (place_from i ss bs) 0 < i + length ss
-place_some i [] bs h = absurd (false≢true h)
-place_some i (s ∷ ss) bs h =
-    cond_both (bytes_eq s.name bs) (Some i) (place_from (i + 1) ss bs) (λ o. is_some o ≡ true → unwrap_or o 0 < i + suc (length ss))
-    (λ _ _. omega arith)
-    (λ _ k. let rest = place_some (i + 1) ss bs k in omega arith)
-    h
+-- the place of a name is below the number of symbols, where there are any
+pub place_below : (i : ℕ) (ss : List Symbol) (bs : List ℕ) → 0 < i + length ss → unwrap_or (place_from i ss bs) 0 < i + length ss
+place_below i [] bs h = h
+place_below i (s ∷ ss) bs h =
+    cond_both (bytes_eq s.name bs) (Some i) (place_from (i + 1) ss bs) (λ o. unwrap_or o 0 < i + suc (length ss))
+    (λ _. omega arith)
+    (λ _. let rest = place_below (i + 1) ss bs (omega arith) in omega arith)
+
+-- a name that some symbol has
+found_some : (ss : List Symbol) (bs : List ℕ) → is_some (place_from 0 ss bs) ≡ true → 0 < length ss
+found_some [] bs h = absurd (false≢true h)
+found_some (s ∷ ss) bs h = omega arith
 
 -- a name that is one, and is not unknown, is some symbol's
 known : (a n r s : Bool) → (a || (not n || r)) ≡ false → (n && not s) ≡ false → s ≡ true
@@ -58,7 +62,8 @@ owned_some d u n h = open_some d.requests n (and_parts _ _ h).0
 new_placed : (d : Day) (c : Call) → judge d c ≡ Ok tt → Every (λ (p : ℕ). p < length d.symbols) (map place (new_requests d c))
 new_placed d (enter e) v =
     let g = (granted (causes d (enter e)) tt tt v).0 in
-    let below = place_some 0 d.symbols e.name (known _ (is_name e.name) _ (is_some (place_of d e.name)) g.1.1.0 g.1.1.1.1.0) in
+    let found = found_some d.symbols e.name (known _ (is_name e.name) _ (is_some (place_of d e.name)) g.1.1.0 g.1.1.1.1.0) in
+    let below = place_below 0 d.symbols e.name (omega arith) in
     (omega arith, tt)
 new_placed d (offer o) v = tt
 new_placed d (pull u q) v = tt
