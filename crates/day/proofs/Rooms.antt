@@ -20,9 +20,6 @@ module _ (t : Tables) (sound : Sound t) where
   pub quotes_long : length (bare_day t).quotes ≡ t.quote_count
   quotes_long = length-take-le t.quote_count t.quotes (omega arith)
 
-  pub trades_long : length (bare_day t).trades ≡ t.trade_count
-  trades_long = length-take-le t.trade_count t.trades (omega arith)
-
   pub room_for_request : (e : Entry) → Ok tt ≡ judge (bare_day t) (enter e) → t.request_count < 128
   room_for_request e v =
       let free = (granted (causes (bare_day t) (enter e)) tt tt (sym v)).0.1.1.1.1.1.1.1.1.1.0 in

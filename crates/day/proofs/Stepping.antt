@@ -1,8 +1,6 @@
 -- A call that was judged does and answers what the model has for it. Assumes nothing.
-use Rattle.std.proofs.Common.{◌≡◌, List, Ok, Err, Result, sym, ap, ◌∙◌}
-use Rattle.records.specs.declared.causes.Cause.{Cause}
+use Rattle.std.proofs.Common.{◌≡◌, List, Ok, Result, sym, ap, ◌∙◌}
 use Rattle.records.specs.declared.causes.Refusal.{Refusal}
-use Rattle.records.specs.Causes.{refusal}
 use Rattle.prices.specs.declared.rows.Row.{Row}
 use Rattle.prices.specs.Rows.{Screen}
 use Rattle.venue.specs.Days.{Day}
@@ -33,8 +31,3 @@ module _ (d : Day) (c : Call) (d' : Day) where
   when_granted a r v says does tells =
       let answered = ap (answer_by d c) (sym v) ∙ says in
       record { next_day = does ∙ sym (ap (next_by d c) answered); answers = tells ∙ sym answered }
-
-  pub when_refused : (a : Result Reply Refusal) (e : Cause) → Err e ≡ judge d c → d' ≡ d → a ≡ Err (refusal e 0) → Steps d c d' a
-  when_refused a e v stays tells =
-      let answered = ap (answer_by d c) (sym v) in
-      record { next_day = stays ∙ sym (ap (next_by d c) answered); answers = tells ∙ sym answered }

@@ -1,7 +1,6 @@
 -- A table is the front of an array. Assumes nothing.
-use Rattle.std.proofs.Common.{◌≡◌, ℕ, zero, suc, ◌-◌, ◌<◌, ◌≤◌, Bool, true, false, List, [], ◌∷◌, length, get_or, take, sym, refl, ap, ◌∙◌, ⊎_elim, arith}
+use Rattle.std.proofs.Common.{◌≡◌, ℕ, zero, suc, ◌-◌, ◌<◌, ◌≤◌, List, [], ◌∷◌, length, get_or, take, sym, refl, ap, ◌∙◌, arith}
 use Rattle.std.proofs.lemmas.List.{length-take-le, get_or-take, get_or_past, get_or_default}
-use Rattle.std.proofs.lemmas.Bool.{cases_lt, both_ways}
 use Rattle.venue.specs.Days.{numbered}
 
 module _ {X : Type 0} (n : ℕ) (xs : List X) (d : X) where
@@ -16,11 +15,6 @@ module _ {X : Type 0} (n : ℕ) (xs : List X) (d : X) where
 pub numbered_is : {X : Type 0} (d : X) (xs : List X) (n : ℕ) → 0 < n → numbered d xs n ≡ get_or xs (n - 1) d
 numbered_is d xs zero h = absurd (omega arith)
 numbered_is d xs (suc n) h = let e : suc n - 1 ≡ n = omega arith in ap (λ k. get_or xs k d) (sym e)
-
--- a row that is live stands in the table
-pub live_within : {X : Type 0} (live : X → Bool) (d : X) (n : ℕ) (xs : List X) (i : ℕ) → n ≤ length xs → live d ≡ false → live (get_or (take n xs) i d) ≡ true → i < n
-live_within live d n xs i within blank h =
-    ⊎_elim (λ lt. lt) (λ ge. absurd (both_ways _ (ap live (sym (row_out n xs d i within ge)) ∙ blank) h)) (cases_lt i n)
 
 -- what is read past the end counts only in what is looked at
 pub read_alike : {X Y : Type 0} (f : X → Y) (d e : X) → f d ≡ f e → (xs : List X) (i : ℕ) → f (get_or xs i d) ≡ f (get_or xs i e)

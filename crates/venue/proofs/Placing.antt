@@ -11,7 +11,7 @@ use Rattle.venue.specs.Days.{Day, no_request, numbered, is_open, is_name, owns, 
 use Rattle.venue.specs.Calls.{Call, Call.enter, Call.offer, Call.pull, Call.cancel, Call.accept, Call.file, Call.post, Call.move_clock, Call.ask_price, Call.view, Call.book, Call.close, causes}
 use Rattle.records.specs.declared.causes.Cause.{Cause}
 use Rattle.records.specs.declared.causes.Refusal.{Refusal}
-use Rattle.venue.specs.Model.{Opening, Reply, open_day, judge, answer_by, apply, next, next_by, reply}
+use Rattle.venue.specs.Model.{Reply, judge, answer_by, apply, next, next_by, reply}
 use Rattle.venue.specs.Places.{Placed}
 use Rattle.venue.proofs.Counting.{length_filed}
 use Rattle.venue.proofs.Dealing.{all_append}
@@ -111,9 +111,6 @@ same_trades d (ask_price k) p v z = refl
 same_trades d (view u room) p v z = refl
 same_trades d (book u n room) p v z = refl
 same_trades d close p v z = refl
-
-pub placed_open : (o : Opening) → Placed (open_day o)
-placed_open o = (λ i k. absurd (omega arith), λ _. refl)
 
 -- a call that is carried out keeps the rows in their places
 pub placed_after : (d : Day) (c : Call) → Placed d → judge d c ≡ Ok tt → Placed (apply d c)
