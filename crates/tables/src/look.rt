@@ -85,8 +85,8 @@ pub fn user_at(t: &Tables, n: u8) -> User
     placed(&t.users, USERS, n as usize, NO_USER)
 }
 
-/// The symbol at a place. Where there is none, no price has a tick and no trade is large; its name is blank in the tables,
-/// and a day's has none.
+/// The symbol at a place. Where there is none, its tick and its large value are 0, as in the day; its name is eight zeros, where
+/// the day's empty symbol has no name.
 pub fn symbol_at(t: &Tables, place: usize) -> Symbol
     requires { Sound t.now }
     ensures ticks { result.ticks ≡ (symbol_of (bare_day t.now) place).ticks }
