@@ -1,36 +1,19 @@
 -- Where a record ends that was read or passed over. Assumes nothing.
-use Rattle.std.proofs.Common.{◌≡◌, ℕ, ◌+◌, ◌*◌, ◌/◌, ◌≤◌, Bool, true, false, cond, ◌&&◌, ltb, List, [], ◌∷◌, length, get_or, drop, Some, None, Ok, Err, Option, Result, sym, refl, ap, arith}
+use Rattle.std.proofs.Common.{◌≡◌, ℕ, ◌+◌, ◌≤◌, Bool, ◌&&◌, ltb, List, [], ◌∷◌, length, get_or, drop, Some, None, Ok, Err, Option, Result, sym, refl, ap, arith}
 use Rattle.records.specs.declared.causes.Cause.{Cause}
 use Rattle.records.specs.declared.causes.Cause.TheVariants.{UnknownKind, CutShort, ForeignBit}
 use Rattle.records.specs.declared.parts.Kind.{Kind}
 use Rattle.records.specs.declared.parts.Kind.TheVariants as kind
 use Rattle.records.specs.declared.parts.Record.{Record}
-use Rattle.records.specs.declared.parts.Shape.{Shape}
-use Rattle.records.specs.declared.parts.Shape.TheVariants as form
-use Rattle.records.specs.declared.parts.Slot.{Slot}
-use Rattle.records.specs.Layout.{field_of, layout, shape}
+use Rattle.records.specs.Layout.{layout}
 use Rattle.records.specs.Fields.{blank}
-use Rattle.records.specs.Bytes.{width, odd, standing, size, foreign}
-use Rattle.records.specs.Reading.{slots_of, no_kind, kind_in, map_in, length_in, record_in, parse, measure, end_of, read_answer, skip_answer}
+use Rattle.records.specs.Bytes.{foreign}
+use Rattle.records.specs.Reading.{slots_of, no_kind, kind_in, map_in, fields_in, length_in, record_in, parse, measure, end_of, read_answer, skip_answer}
 use Rattle.records.proofs.Back.{tests, opened}
+use Rattle.records.proofs.Standings.{size_most, standing_few}
 use Rattle.records.proofs.Unless.{granted}
 
 -- a record is at least its kind and its map, and no longer than all its fields
-wide : (s : Shape) → width s ≤ 8
-wide form.Byte = omega arith
-wide form.Two = omega arith
-wide form.Four = omega arith
-wide form.Eight = omega arith
-wide form.Users = omega arith
-wide form.Set = omega arith
-wide form.YesNo = omega arith
-wide form.BuySell = omega arith
-wide form.KeepCancel = omega arith
-wide form.Reference = omega arith
-wide form.Priced = omega arith
-wide form.Text = omega arith
-wide form.Mark = omega arith
-
 few : (o : Option Kind) → length (slots_of o) ≤ 16
 few None = omega arith
 few (Some k) = kinds k
@@ -55,18 +38,11 @@ few (Some k) = kinds k
     kinds kind.TradeLine = omega arith
     kinds kind.ExecutableLine = omega arith
 
-most : (ss : List Slot) (m : ℕ) → size (standing ss m) ≤ 8 * length ss
-most [] m = omega arith
-most (s ∷ ss) m = by_bit (odd m) (most ss (m / 2))
-  where
-    by_bit : (b : Bool) → size (standing ss (m / 2)) ≤ 8 * length ss → size (cond b (field_of s ∷ standing ss (m / 2)) (standing ss (m / 2))) ≤ 8 * length (s ∷ ss)
-    by_bit true h = let w = wide (shape (field_of s)) in omega arith
-    by_bit false h = omega arith
-
 pub length_most : (t : List ℕ) → length_in t ≤ 131
 length_most t =
-    let f = few (kind_in t) in
-    let s = most (slots_of (kind_in t)) (map_in t) in
+    let slots = few (kind_in t) in
+    let fields = standing_few (slots_of (kind_in t)) (map_in t) in
+    let bytes = size_most (fields_in t) in
     omega arith
 
 pub read_ends : (s : List ℕ) (at k next : ℕ) → read_answer s at ≡ Ok (k, next) → (at + 3 ≤ next) × (next ≤ at + 131)

@@ -1,38 +1,16 @@
 -- What is read at a place, layer by layer: from a slice's parts to the whole. Assumes nothing.
-use Rattle.std.proofs.Common.{◌≡◌, ℕ, ◌+◌, ◌-◌, ◌/◌, ◌<◌, ◌≤◌, Bool, true, false, cond, ◌&&◌, ltb, List, [], ◌∷◌, length, get_or, take, drop, Some, Ok, Err, Option, Result, sym, refl, ap, ◌∙◌, arith, length-drop, take_all}
-use Rattle.std.proofs.lemmas.List.{drop-drop}
+use Rattle.std.proofs.Common.{◌≡◌, ℕ, ◌+◌, ◌≤◌, Bool, true, false, cond, ◌&&◌, ltb, List, [], ◌∷◌, length, get_or, drop, Some, Ok, Err, Option, Result, sym, refl, ap, ◌∙◌, arith, length-drop}
 use Rattle.std.proofs.lemmas.Bool.{cond-false, and_right}
 use Rattle.std.proofs.lemmas.Bool.Decides.{nat_tests}
 use Rattle.records.specs.declared.causes.Cause.{Cause}
 use Rattle.records.specs.declared.causes.Cause.TheVariants.{UnknownKind, CutShort, ForeignBit, FieldAbsent, WrongLetter}
 use Rattle.records.specs.Causes.{unless}
-use Rattle.records.specs.declared.parts.Field.{Field}
 use Rattle.records.specs.declared.parts.Kind.{Kind}
 use Rattle.records.specs.declared.parts.Record.{Record}
-use Rattle.records.specs.declared.parts.Slot.{Slot}
-use Rattle.records.specs.Layout.{field_of, layout, shape}
-use Rattle.records.specs.Fields.{blank, decoded, kept, same}
-use Rattle.records.specs.Bytes.{width, odd, standing, size, foreign, absent, wrong, taken}
+use Rattle.records.specs.Layout.{layout}
+use Rattle.records.specs.Fields.{blank}
+use Rattle.records.specs.Bytes.{standing, size, foreign, absent, wrong}
 use Rattle.records.specs.Reading.{fill, slots_of, absent_of, no_kind, parse, parse_fields, kind_in, map_in}
-use Rattle.records.proofs.Turns.{no_slot, standing_more}
-
--- the part of a slice from a place on, and what a slice pattern calls `rest`
-pub rest_is : (n : ℕ) (s : List ℕ) → take (length s - n) (drop n s) ≡ drop n s
-rest_is n s = take_all (length s - n) (drop n s) (simp length-drop (omega arith))
-
--- the record after the field of a slot was taken, given the map from its bit up
-abbrev pub with_field : Slot → ℕ → List ℕ → Record → Record
-with_field x m s r = cond (odd m) (kept (same (field_of x)) (decoded s) r) r
-
-fill_by : (b : Bool) (f : Field) (fs : List Field) (s : List ℕ) (r : Record) → fill (cond b (f ∷ fs) fs) s r ≡ fill fs (drop (cond b (width (shape f)) 0) s) (cond b (kept (same f) (decoded s) r) r)
-fill_by true f fs s r = refl
-fill_by false f fs s r = refl
-
-pub fill_more : (ss : List Slot) (i m at : ℕ) (s : List ℕ) (r : Record) → i < length ss → fill (standing (drop i ss) m) (drop at s) r ≡ fill (standing (drop (i + 1) ss) (m / 2)) (drop (at + taken (get_or ss i no_slot) m) s) (with_field (get_or ss i no_slot) m (drop at s) r)
-fill_more ss i m at s r h =
-    let x = get_or ss i no_slot in
-    let rest = standing (drop (i + 1) ss) (m / 2) in
-    ap (λ fs. fill fs (drop at s) r) (standing_more ss i m h) ∙ fill_by (odd m) (field_of x) rest (drop at s) r ∙ ap (λ bs. fill rest bs (with_field x m (drop at s) r)) (drop-drop (taken x m) at s)
 
 -- the whole of a known kind from what stands behind its bit map
 abbrev pub under : ℕ → Result (ℕ × Record) Cause → Result (ℕ × ℕ × Record) Cause

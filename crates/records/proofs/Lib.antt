@@ -6,6 +6,6 @@ mod Named
 pub mod Over
 mod Records
 mod Spelled
-pub mod Turns
+pub mod Standings
 pub mod Unless
 mod Widths

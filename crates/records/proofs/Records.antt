@@ -1,13 +1,12 @@
 -- The bytes of a whole record from those of its parts. Assumes nothing.
-use Rattle.std.proofs.Common.{◌≡◌, ℕ, ◌+◌, ◌/◌, ◌%◌, ◌≤◌, Bool, false, ltb, List, [], ◌∷◌, ◌++◌, length, Some, Ok, sym, ap, ◌∙◌, arith, ltb-false}
+use Rattle.std.proofs.Common.{◌≡◌, ℕ, ◌+◌, ◌/◌, ◌%◌, ◌≤◌, Bool, false, ltb, List, [], ◌∷◌, length, Some, Ok, sym, ap, ◌∙◌, arith, ltb-false}
 use Rattle.std.specs.List.{flat_map}
 use Rattle.records.specs.declared.causes.Cause.{Cause}
 use Rattle.records.specs.declared.causes.Cause.TheVariants.{UnknownKind, ForeignBit, FieldAbsent, WrongLetter, BufferShort}
 use Rattle.records.specs.declared.parts.Kind.{Kind}
 use Rattle.records.specs.declared.parts.Record.{Record}
-use Rattle.records.specs.declared.parts.Slot.{Slot}
 use Rattle.records.specs.Layout.{kind_of, layout}
-use Rattle.records.specs.Bytes.{field_bytes, standing, size, foreign, wrong}
+use Rattle.records.specs.Bytes.{field_bytes, standing, foreign, wrong}
 use Rattle.records.specs.Reading.{slots_of, absent_of, no_kind}
 use Rattle.records.specs.Writing.{encode, fields_of, length_of, over, judge_write}
 use Rattle.records.proofs.Over.{over_then}
@@ -48,20 +47,13 @@ write_granted k r room at next e =
 pub encoded_long : (k : ℕ) (r : Record) → length r.name ≡ 8 → length r.flag ≡ 4 → length (encode k r) ≡ length_of k r
 encoded_long k r hn hf = let long = joined_size r hn hf (fields_of k r) in omega arith
 
-module _ (k : ℕ) (r : Record) (kind : Kind) (slots : List Slot) (known : kind_of k ≡ Some kind) (are : slots ≡ layout kind) where
-  pub same_fields : standing slots r.map ≡ fields_of k r
-  same_fields = ap (λ ss. standing ss r.map) (are ∙ sym (ap slots_of known))
-
-  -- the fields take as many bytes as the record's length says
-  pub fields_long : length r.name ≡ 8 → length r.flag ≡ 4 → 3 + length (flat_map (field_bytes r) (standing slots r.map)) ≡ length_of k r
-  fields_long hn hf =
-      let long = joined_size r hn hf (standing slots r.map) in
-      let same = ap size same_fields in
-      omega arith
+module _ (k : ℕ) (r : Record) (kind : Kind) (known : kind_of k ≡ Some kind) where
+  pub same_fields : standing (layout kind) r.map ≡ fields_of k r
+  same_fields = ap (λ o. standing (slots_of o) r.map) (sym known)
 
   -- the head, and then the fields
-  pub all_written : (out mid now : List ℕ) (at p : ℕ) (front : List ℕ) → mid ≡ over out at front → p ≡ at + length front → now ≡ over mid p (flat_map (field_bytes r) (standing slots r.map)) → front ≡ k ∷ r.map % 256 ∷ r.map / 256 % 256 ∷ [] → now ≡ over out at (encode k r)
-  all_written out mid now at p front first place second is =
-      over_then out at front (flat_map (field_bytes r) (standing slots r.map)) mid now p first place second
-      ∙ ap (λ bs. over out at (bs ++ flat_map (field_bytes r) (standing slots r.map))) is
+  pub all_written : (out mid now : List ℕ) (at p : ℕ) → mid ≡ over out at (k ∷ r.map % 256 ∷ r.map / 256 % 256 ∷ []) → p ≡ at + 3 → now ≡ over mid p (flat_map (field_bytes r) (standing (layout kind) r.map)) → now ≡ over out at (encode k r)
+  all_written out mid now at p first place second =
+      let front : List ℕ = k ∷ r.map % 256 ∷ r.map / 256 % 256 ∷ [] in
+      over_then out at front (flat_map (field_bytes r) (standing (layout kind) r.map)) mid now p first place second
       ∙ ap (λ fs. over out at (k ∷ r.map % 256 ∷ r.map / 256 % 256 ∷ flat_map (field_bytes r) fs)) same_fields

@@ -1,6 +1,6 @@
--- The number and the layer letter of each cause of refusal, and which of several causes is given.
+-- The number and the layer letter of each cause of refusal, how a refusal is written, and which of several causes is given.
 -- Assumes nothing.
-use Rattle.std.specs.Prelude.{ℕ, Bool, cond, List, [], ◌∷◌, Ok, Err, Result}
+use Rattle.std.specs.Prelude.{ℕ, Bool, cond, List, [], ◌∷◌, ◌++◌, Ok, Err, Result, codes, decimal, encode_utf8}
 use Rattle.records.specs.declared.causes.Cause.{Cause}
 use Rattle.records.specs.declared.causes.Cause.TheVariants.{UnknownKind, CutShort, ForeignBit, FieldAbsent, WrongLetter, OutOfPart, OutOfRange, EnteredBefore, UnknownUser, UnknownSymbol, WrongRecipients, OffTick, MinimumAboveQuantity, NotAfterClock, RequestNotOpen, QuoteNotLive, DayFull, LegAgainstSide, BelowShownMinimum, NamedTwice, BelowFloor, DebtNotOwed, TradesUnfiled, BufferShort, NoSuchPlace, NeverPosted, PriceGone, CrossedPair, TooOld, OutOfPrice}
 use Rattle.records.specs.declared.causes.Refusal.{Refusal}
@@ -77,3 +77,7 @@ refusal e p = record { cause = e; place = p }
 abbrev pub unless : {X : Type 0} → List (Cause × Bool) → X → Result X Cause
 unless [] x = Ok x
 unless (c ∷ cs) x = cond c.1 (Err c.0) (unless cs x)
+
+-- how a refusal is written: `no`, the number, the layer letter and the place
+abbrev pub refusal_text : Refusal → List ℕ
+refusal_text e = codes "no " ++ (decimal (number e.cause) ++ (codes " " ++ (encode_utf8 (layer e.cause) ++ (codes " " ++ decimal e.place))))

@@ -96,6 +96,15 @@ measure s =
     ∷ [])
     (length_in s)
 
+-- the same of what stands behind the bit map of a known kind
+abbrev pub measure_fields : Kind → ℕ → List ℕ → Result ℕ Cause
+measure_fields k m s =
+    unless
+    ((CutShort, nat_lt (length s) (size (standing (layout k) m)))
+    ∷ (ForeignBit, foreign (layout k) m)
+    ∷ [])
+    (3 + size (standing (layout k) m))
+
 abbrev pub end_of : ℕ → Result ℕ Cause → Result ℕ Refusal
 end_of at (Ok n) = Ok (at + n)
 end_of at (Err e) = Err (refusal e at)

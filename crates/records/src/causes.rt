@@ -1,9 +1,11 @@
 // Why a call or a record is refused.
-ghost use Rattle.std.specs.Prelude.{◌≡◌};
-ghost use Rattle.records.specs.Causes.{number as number_of, layer as layer_of, refusal};
+ghost use Rattle.std.specs.Prelude.{◌≡◌, Some};
+ghost use Rattle.records.specs.Causes.{number as number_of, layer as layer_of, refusal, refusal_text};
+
+use std::fmt;
 
 /// The causes of refusal.
-#[derive(Clone, Copy)]
+#[derive(Clone, Copy, Debug, PartialEq, Eq)]
 pub enum Cause {
     /// The kind letter is none of the eighteen.
     UnknownKind,
@@ -69,7 +71,7 @@ pub enum Cause {
 
 /// A refusal: its cause, and the place that the cause speaks of. That is the offset of the record's first byte for a
 /// record, the symbol's place for a price, and 0 for the book.
-#[derive(Clone, Copy)]
+#[derive(Clone, Copy, Debug, PartialEq, Eq)]
 pub struct Refusal {
     pub cause: Cause,
     pub place: usize,
@@ -80,11 +82,30 @@ impl From<Cause> for Refusal {
     ghost from_gives = { λ cause r. r ≡ refusal cause 0 };
 
     fn from(cause: Cause) -> Refusal {
-        Refusal { cause, place: 0 }
+        cause.at(0)
+    }
+}
+
+/// `no`, the number, the layer and the place.
+impl fmt::Display for Refusal {
+    ghost output = { λ r. Some (refusal_text r) };
+
+    fn fmt<W: fmt::Write>(&self, f: &mut fmt::Formatter<W>) -> fmt::Result {
+        let number = self.cause.number();
+        let layer = self.cause.layer();
+        write!(f, "no {number} {layer} {}", self.place)
     }
 }
 
 impl Cause {
+    /// The refusal for this cause, at a place.
+    pub fn at(self, place: usize) -> Refusal
+        ensures { result ≡ refusal self place }
+    {
+        Refusal { cause: self, place }
+    }
+
+    // By a match: two causes share 13, so the number is no discriminant.
     /// The number by which the cause is reported.
     pub fn number(self) -> u8
         ensures { result ≡ number_of self }
@@ -123,6 +144,7 @@ impl Cause {
         }
     }
 
+    // A letter, as it is reported: nothing hangs on it but the place in a refusal of the writer.
     /// The letter of the layer that refuses: R for records, B for the book, P for prices.
     pub fn layer(self) -> char
         ensures { result ≡ layer_of self }

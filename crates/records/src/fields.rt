@@ -1,18 +1,24 @@
 // The fields of a record, got and set by name.
-ghost use Rattle.std.specs.Prelude.{◌≡◌, ◌≤◌, length};
+ghost use Rattle.std.specs.Prelude.{◌≡◌, ◌≤◌, length, take};
 ghost use Rattle.records.specs.Bytes.{width};
-ghost use Rattle.records.specs.Fields.{byte as byte_of, two as two_of, four as four_of, eight as eight_of, text as text_of, mark as mark_of, price as price_of, value as value_of, decoded, kept, same};
+ghost use Rattle.records.specs.Fields.{byte as byte_of, two as two_of, four as four_of, eight as eight_of, price as price_of, value as value_of, decoded, kept, same};
 ghost use Rattle.records.specs.Layout.{shape};
 
 use super::parts::{Field, Price, Record, Value};
+
+/// The first N bytes.
+fn front<const N: usize>(bytes: &[u8]) -> [u8; N]
+    requires { N ≤ length bytes.now }
+    ensures { result ≡ take N bytes.now }
+{
+    *bytes.first_chunk().unwrap()
+}
 
 fn byte(bytes: &[u8]) -> u8
     requires { 1 ≤ length bytes.now }
     ensures { result ≡ byte_of bytes.now }
 {
-    let [a, ..] = bytes else {
-        return 0;
-    };
+    let [a, ..] = bytes else { unreachable!() };
     *a
 }
 
@@ -20,9 +26,7 @@ fn two(bytes: &[u8]) -> u16
     requires { 2 ≤ length bytes.now }
     ensures { result ≡ two_of bytes.now }
 {
-    let [a, b, ..] = bytes else {
-        return 0;
-    };
+    let [a, b, ..] = bytes else { unreachable!() };
     u16::from_le_bytes([*a, *b])
 }
 
@@ -31,7 +35,7 @@ fn four(bytes: &[u8]) -> u32
     ensures { result ≡ four_of bytes.now }
 {
     let [a, b, c, d, ..] = bytes else {
-        return 0;
+        unreachable!()
     };
     u32::from_le_bytes([*a, *b, *c, *d])
 }
@@ -40,42 +44,19 @@ fn eight(bytes: &[u8]) -> u64
     requires { 8 ≤ length bytes.now }
     ensures { result ≡ eight_of bytes.now }
 {
-    u64::from_le_bytes(text(bytes))
-}
-
-fn text(bytes: &[u8]) -> [u8; 8]
-    requires { 8 ≤ length bytes.now }
-    ensures { result ≡ text_of bytes.now }
-{
-    let [a, b, c, d, e, f, g, h, ..] = bytes else {
-        return [0; 8];
-    };
-    [*a, *b, *c, *d, *e, *f, *g, *h]
-}
-
-fn mark(bytes: &[u8]) -> [u8; 4]
-    requires { 4 ≤ length bytes.now }
-    ensures { result ≡ mark_of bytes.now }
-{
-    let [a, b, c, d, ..] = bytes else {
-        return [0; 4];
-    };
-    [*a, *b, *c, *d]
+    u64::from_le_bytes(front(bytes))
 }
 
 fn price(bytes: &[u8]) -> Price
     requires { 5 ≤ length bytes.now }
     ensures { result ≡ price_of bytes.now }
 {
-    let [letter, a, b, c, d, ..] = bytes else {
-        return Price {
-            letter: '\0',
-            number: 0,
-        };
+    let [letter, number @ ..] = bytes else {
+        unreachable!()
     };
     Price {
         letter: char::from(*letter),
-        number: u32::from_le_bytes([*a, *b, *c, *d]),
+        number: four(number),
     }
 }
 
@@ -138,7 +119,7 @@ impl Record {
             Field::User => self.user = byte(bytes),
             Field::Rank => self.rank = byte(bytes),
             Field::Late => self.late = char::from(byte(bytes)),
-            Field::Name => self.name = text(bytes),
+            Field::Name => self.name = front(bytes),
             Field::Tick => self.tick = four(bytes),
             Field::Large => self.large = eight(bytes),
             Field::Day => self.day = four(bytes),
@@ -175,7 +156,7 @@ impl Record {
             Field::Buys => self.buys = four(bytes),
             Field::Trade => self.trade = two(bytes),
             Field::Price => self.price = four(bytes),
-            Field::Flag => self.flag = mark(bytes),
+            Field::Flag => self.flag = front(bytes),
         }
     }
 }

@@ -1,7 +1,10 @@
 // The fields of each kind of record, in bit order.
 ghost use Rattle.std.specs.Prelude.{◌≡◌, ◌≤◌, length};
-ghost use Rattle.records.specs.Layout.{field_of, kind_of, layout, may_lack, shape as shape_of};
+ghost use Rattle.std.specs.Option.{ok_or};
+ghost use Rattle.records.specs.declared.causes.Cause.TheVariants.{UnknownKind};
+ghost use Rattle.records.specs.Layout.{field_of, kind_of, layout, may_lack as is_optional, shape as shape_of};
 
+use super::causes::Cause;
 use super::parts::Slot::{May, Must};
 use super::parts::{Field, Kind, Shape, Slot};
 
@@ -102,6 +105,7 @@ static EXECUTABLE_LINE: [Slot; 3] = [
 ];
 
 impl Kind {
+    // The letters are cases here alone; `try_from` gives the refusal.
     /// The kind of a letter, if there is one.
     pub fn of(letter: char) -> Option<Kind>
         ensures { result ≡ kind_of letter }
@@ -154,6 +158,17 @@ impl Kind {
             Kind::TradeLine => &TRADE_LINE,
             Kind::ExecutableLine => &EXECUTABLE_LINE,
         }
+    }
+}
+
+/// The kind of a letter; a letter of no kind is refused.
+impl TryFrom<char> for Kind {
+    type Error = Cause;
+
+    ghost try_from_gives = { λ letter r. r ≡ ok_or (kind_of letter) UnknownKind };
+
+    fn try_from(letter: char) -> Result<Kind, Cause> {
+        Kind::of(letter).ok_or(Cause::UnknownKind)
     }
 }
 
@@ -214,12 +229,9 @@ impl Slot {
     }
 
     /// Whether the field may lack.
-    pub(crate) fn lacks(self) -> bool
-        ensures { result ≡ may_lack self }
+    pub(crate) fn may_lack(self) -> bool
+        ensures { result ≡ is_optional self }
     {
-        match self {
-            Must(_) => false,
-            May(_) => true,
-        }
+        matches!(self, May(_))
     }
 }

@@ -4,6 +4,7 @@
 pub mod causes;
 pub mod checks;
 pub mod fields;
+pub mod heads;
 pub mod layouts;
 pub mod parts;
 pub mod reading;

@@ -1,14 +1,16 @@
 // Records by their parts: the kinds, the fields of each, and the plain record that holds any of them.
 
+// A letter and no enum: any can stand in a record, and a wrong one is refused by 5.
 /// A price as it is given: a letter, and a number that counts only at L.
-#[derive(Clone, Copy)]
+#[derive(Clone, Copy, Debug, Default, PartialEq, Eq)]
 pub struct Price {
     pub letter: char,
     pub number: u32,
 }
 
+// Plain, as its bytes are: any letter can stand in a field, and reader and writer refuse the wrong ones by their number.
 /// A record of any kind. The bit map says which fields stand; each other field has its stated value.
-#[derive(Clone, Copy)]
+#[derive(Clone, Copy, Debug, Default, PartialEq, Eq)]
 pub struct Record {
     /// Which fields stand, the lowest bit for the first field of the kind.
     pub map: u16,
@@ -91,7 +93,7 @@ pub struct Record {
 }
 
 /// The fields of a record, by name.
-#[derive(Clone, Copy)]
+#[derive(Clone, Copy, Debug, PartialEq, Eq)]
 pub enum Field {
     User,
     Rank,
@@ -137,7 +139,7 @@ pub enum Field {
 }
 
 /// How a field stands as bytes, and what is asked of it.
-#[derive(Clone, Copy)]
+#[derive(Clone, Copy, Debug, PartialEq, Eq)]
 pub enum Shape {
     /// A number of one byte.
     Byte,
@@ -168,7 +170,7 @@ pub enum Shape {
 }
 
 /// What a field holds.
-#[derive(Clone, Copy)]
+#[derive(Clone, Copy, Debug, PartialEq, Eq)]
 pub enum Value {
     Number(u64),
     Letter(char),
@@ -178,14 +180,14 @@ pub enum Value {
 }
 
 /// A field of a kind of record: one that must stand, or one that may lack.
-#[derive(Clone, Copy)]
+#[derive(Clone, Copy, Debug, PartialEq, Eq)]
 pub enum Slot {
     Must(Field),
     May(Field),
 }
 
 /// The kinds of record: fourteen calls, and the four lines that only answers hold.
-#[derive(Clone, Copy)]
+#[derive(Clone, Copy, Debug, PartialEq, Eq)]
 pub enum Kind {
     NewUser,
     NewSymbol,
