@@ -6,9 +6,12 @@ use prices::rows::{Leg, Pair, Ticks};
 use prices::sources::{Aged, Crossed, Sheet, Source, post_and_read, stack};
 use records::causes::Refusal;
 use records::parts::Price;
+use std::fmt::{self, Display};
 use std::io;
 
-const TICKS: [u32; 5] = [1, 2, 5, 100, 10_000_000];
+const LEGS: [(&str, Leg); 2] = [("selling", Leg::Selling), ("buying", Leg::Buying)];
+
+const TICKS: [u32; 6] = [1, 2, 5, 100, 10_000_000, 0];
 
 const SIDES: [u32; 7] = [0, 1, 4, 1_000_100, 1_000_200, 999_999_999, 4_294_967_295];
 
@@ -20,43 +23,46 @@ const LIMITS: [u32; 5] = [0, 1, 60_000, 86_400_000, 4_294_967_295];
 
 const TIMES: [u32; 6] = [0, 1, 27_000_000, 27_060_000, 27_060_001, 4_294_967_295];
 
+const STACKED: [(u32, u32, u32); 3] = [(5, 5, 60_000), (5, 4, 60_000), (5, 4, 60_001)];
+
 const PLACES: [usize; 4] = [0, 63, 64, 18_446_744_073_709_551_615];
 
-fn show_refusal(rt: &HostRuntime, refusal: Refusal) -> io::Result<()> {
-    let number = refusal.cause.number();
-    let layer = refusal.cause.layer();
-    let place = refusal.place;
-    println!(rt; ": no {number} {layer} {place}")
-}
+/// What a call came to, as a line shows it: ok and what it gave, or no with number, layer and place of the refusal.
+#[derive(Drop)]
+struct Shown<T>(Result<T, Refusal>);
 
-fn show_price(rt: &HostRuntime, price: Result<u32, Refusal>) -> io::Result<()> {
-    match price {
-        Ok(price) => println!(rt; ": ok {price}"),
-        Err(refusal) => show_refusal(rt, refusal),
+impl<T: Display> Display for Shown<T> {
+    fn fmt<W: fmt::Write>(&self, f: &mut fmt::Formatter<W>) -> fmt::Result {
+        match &self.0 {
+            Ok(given) => write!(f, "ok {given}"),
+            Err(refusal) => write!(f, "{refusal}"),
+        }
     }
 }
 
-fn show_reading(rt: &HostRuntime, reading: Result<(u32, u32, u32), Refusal>) -> io::Result<()> {
-    match reading {
-        Ok((bid, offer, posted)) => println!(rt; ": ok {bid} {offer} {posted}"),
-        Err(refusal) => show_refusal(rt, refusal),
+/// A bid, an offer and their posting time.
+#[derive(Drop)]
+struct Reading((u32, u32, u32));
+
+impl Display for Reading {
+    fn fmt<W: fmt::Write>(&self, f: &mut fmt::Formatter<W>) -> fmt::Result {
+        let (bid, offer, posted) = self.0;
+        write!(f, "{bid} {offer} {posted}")
     }
+}
+
+fn read_shown<S: Source>(source: &S, place: usize, time: u32) -> Shown<Reading> {
+    Shown(source.read(place, time).map(Reading))
 }
 
 /// The prices of both legs, at each letter that needs a source.
 fn price_legs(rt: &HostRuntime, sheet: &Sheet, tick: u32, bid: u32, offer: u32) -> io::Result<()> {
     for letter in LETTERS {
         let price = Price { letter, number: 0 };
-        print!(rt; "{letter} selling {bid} {offer} tick {tick}")?;
-        show_price(
-            rt,
-            price_at(sheet, 7, 0, Ticks { tick }, Leg::Selling, price),
-        )?;
-        print!(rt; "{letter} buying {bid} {offer} tick {tick}")?;
-        show_price(
-            rt,
-            price_at(sheet, 7, 0, Ticks { tick }, Leg::Buying, price),
-        )?;
+        for (name, leg) in LEGS {
+            let shown = Shown(price_at(sheet, 7, 0, Ticks { tick }, leg, price));
+            println!(rt; "{letter} {name} {bid} {offer} tick {tick}: {shown}")?;
+        }
     }
     Ok(())
 }
@@ -80,22 +86,20 @@ fn price_numbers(rt: &HostRuntime) -> io::Result<()> {
             letter: 'L',
             number,
         };
-        print!(rt; "L {number}")?;
-        show_price(
-            rt,
-            price_at(&sheet, 64, 0, Ticks { tick: 5 }, Leg::Buying, price),
-        )?;
+        let shown = Shown(price_at(&sheet, 64, 0, Ticks { tick: 5 }, Leg::Buying, price));
+        println!(rt; "L {number}: {shown}")?;
     }
     Ok(())
 }
 
 fn read_ages(rt: &HostRuntime, limit: u32) -> io::Result<()> {
+    let pair = Pair { bid: 2, offer: 1 };
     for posted in TIMES {
         for time in TIMES {
             let mut source = Aged::over(Sheet::new(), limit);
-            let pair = Pair { bid: 2, offer: 1 };
-            print!(rt; "limit {limit} posted {posted} read {time}")?;
-            show_reading(rt, post_and_read(&mut source, 7, Some(pair), posted, time))?;
+            let reading = post_and_read(&mut source, 7, Some(pair), posted, time);
+            let shown = Shown(reading.map(Reading));
+            println!(rt; "limit {limit} posted {posted} read {time}: {shown}")?;
         }
     }
     Ok(())
@@ -104,24 +108,26 @@ fn read_ages(rt: &HostRuntime, limit: u32) -> io::Result<()> {
 /// The stack of the program: crossed over age over the sheet. What is old and crossed is old.
 fn read_stack(rt: &HostRuntime, bid: u32, offer: u32, time: u32) -> io::Result<()> {
     let mut source = stack(60_000);
-    print!(rt; "stack never at {time}")?;
-    show_reading(rt, source.read(7, time))?;
+    println!(rt; "stack never at {time}: {}", read_shown(&source, 7, time))?;
     let _ = source.post(7, None, 0);
-    print!(rt; "stack gone at {time}")?;
-    show_reading(rt, source.read(7, time))?;
+    println!(rt; "stack gone at {time}: {}", read_shown(&source, 7, time))?;
     let _ = source.post(7, Some(Pair { bid, offer }), 0);
-    print!(rt; "stack {bid} {offer} at {time}")?;
-    show_reading(rt, source.read(7, time))?;
-    print!(rt; "stack beside it at {time}")?;
-    show_reading(rt, source.read(8, time))
+    println!(rt;
+        "stack {bid} {offer} at {time}: {}",
+        read_shown(&source, 7, time)
+    )?;
+    println!(rt;
+        "stack beside it at {time}: {}",
+        read_shown(&source, 8, time)
+    )
 }
 
 fn read_places(rt: &HostRuntime) -> io::Result<()> {
+    let pair = Pair { bid: 1, offer: 2 };
     for place in PLACES {
         let mut source = Crossed::over(Sheet::new());
-        let pair = Pair { bid: 1, offer: 2 };
-        print!(rt; "place {place}")?;
-        show_reading(rt, post_and_read(&mut source, place, Some(pair), 3, 4))?;
+        let reading = post_and_read(&mut source, place, Some(pair), 3, 4);
+        println!(rt; "place {place}: {}", Shown(reading.map(Reading)))?;
     }
     Ok(())
 }
@@ -130,13 +136,12 @@ fn main(rt: HostRuntime) -> io::Result<()> {
     for tick in TICKS {
         price_pairs(&rt, tick)?;
     }
-    price_pairs(&rt, 0)?;
     price_numbers(&rt)?;
     for limit in LIMITS {
         read_ages(&rt, limit)?;
     }
-    read_stack(&rt, 5, 5, 60_000)?;
-    read_stack(&rt, 5, 4, 60_000)?;
-    read_stack(&rt, 5, 4, 60_001)?;
+    for (bid, offer, time) in STACKED {
+        read_stack(&rt, bid, offer, time)?;
+    }
     read_places(&rt)
 }

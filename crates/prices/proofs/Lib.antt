@@ -1,2 +1,1 @@
-mod Echo
 pub mod Mids

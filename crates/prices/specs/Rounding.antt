@@ -37,7 +37,7 @@ at_mid leg bid offer tick = price_of (Ok (bid, offer, 0)) record { tick = tick }
 
 -- what the age screen over the sheet gives of a pair
 abbrev pub aged : ℕ → ℕ → ℕ → Reading
-aged limit posted time = fresh limit bare 0 (Posted 1000100 1000200 posted) time
+aged limit posted time = fresh limit bare 0 (Posted (record { bid = 1000100; offer = 1000200 }) posted) time
 
 -- the amounts worked out by hand
 pub record Amounts : Type 0 where

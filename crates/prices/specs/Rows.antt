@@ -19,7 +19,7 @@ Screen = ℕ → Row → ℕ → Reading
 -- the row that a posting leaves: the pair with its time, or gone
 abbrev pub row_of : Option Pair → ℕ → Row
 row_of None t = Gone
-row_of (Some p) t = Posted p.bid p.offer t
+row_of (Some p) t = Posted p t
 
 -- what a posting answers
 abbrev pub post_answer : ℕ → Result Unit Refusal
@@ -37,7 +37,7 @@ read_answer rs s p t = cond (nat_lt p 64) (s p (slice_index_or rs p Never) t) (E
 abbrev pub bare : Screen
 bare p Never t = Err (refusal NeverPosted p)
 bare p Gone t = Err (refusal PriceGone p)
-bare p (Posted bid offer posted) t = Ok (bid, offer, posted)
+bare p (Posted q posted) t = Ok (q.bid, q.offer, posted)
 
 abbrev pub pass_uncrossed : ℕ → Reading → Reading
 pass_uncrossed p (Ok q) = cond (nat_lt q.1 q.0) (Err (refusal CrossedPair p)) (Ok q)

@@ -1,6 +1,6 @@
 // What a leg or a limit comes to.
-ghost use Rattle.std.specs.Prelude.{◌≡◌, ◌+◌, ◌*◌, ◌<◌, ◌≤◌, Ok, Err};
-ghost use Rattle.prices.specs.Prices.{as_price, mid as mid_of, price_of, round_down, round_up, tick_at};
+ghost use Rattle.std.specs.Prelude.{◌≡◌};
+ghost use Rattle.prices.specs.Prices.{as_price, mid as mid_of, price_of, tick_at};
 ghost use Rattle.prices.specs.Rounding.{Amounts, Rounds};
 ghost use Rattle.prices.specs.Rows.{read_answer};
 
@@ -16,37 +16,11 @@ const MOST_PRICE: u64 = 999_999_999;
 fn as_a_price(place: usize, number: u64) -> Result<u32, Refusal>
     ensures { result ≡ as_price place number }
 {
-    if number < 1 || number > MOST_PRICE {
-        return Err(Refusal {
-            cause: Cause::OutOfPrice,
-            place,
-        });
+    if (1..=MOST_PRICE).contains(&number) {
+        Ok(number as u32)
+    } else {
+        Err(Cause::OutOfPrice.at(place))
     }
-    Ok(number as u32)
-}
-
-/// The least multiple of the tick at or above half of the sum.
-fn up(sum: u64, tick: u32) -> u64
-    requires { sum < 8589934592 }
-    ensures { result ≡ round_up sum tick }
-{
-    if tick == 0 {
-        return 0;
-    }
-    let step = 2 * u64::from(tick);
-    (sum + (step - 1)) / step * u64::from(tick)
-}
-
-/// The greatest multiple of the tick at or below half of the sum.
-fn down(sum: u64, tick: u32) -> u64
-    requires { sum < 8589934592 }
-    ensures { result ≡ round_down sum tick }
-{
-    if tick == 0 {
-        return 0;
-    }
-    let step = 2 * u64::from(tick);
-    sum / step * u64::from(tick)
 }
 
 impl Ticks {
@@ -58,51 +32,26 @@ impl Ticks {
     }
 
     /// The mid of a leg, rounded to the tick.
+    #[tactic(auto, using(crate::proofs::Mids::ceil))]
     fn mid(self, leg: Leg, bid: u32, offer: u32) -> u64
         ensures { result ≡ mid_of leg self bid offer }
     {
         let sum = u64::from(bid) + u64::from(offer);
-        let tick = self.at(sum);
+        let tick = u64::from(self.at(sum));
+        if tick == 0 {
+            return 0;
+        }
         match leg {
-            Leg::Selling => up(sum, tick),
-            Leg::Buying => down(sum, tick),
+            Leg::Selling => sum.div_ceil(2 * tick) * tick,
+            Leg::Buying => sum / (2 * tick) * tick,
         }
     }
 }
 
-fn price_from<S: Source>(
-    source: &S,
-    place: usize,
-    time: u32,
-    ticks: Ticks,
-    leg: Leg,
-    price: Price,
-) -> Result<u32, Refusal>
-    ensures { result ≡ price_of (read_answer (S.rows source.now) (S.screen source.now) place time) ticks leg place price }
-{
-    match price.letter {
-        'L' => as_a_price(place, u64::from(price.number)),
-        'B' => {
-            let (bid, _, _) = source.read(place, time)?;
-            as_a_price(place, u64::from(bid))
-        }
-        'O' => {
-            let (_, offer, _) = source.read(place, time)?;
-            as_a_price(place, u64::from(offer))
-        }
-        'M' => {
-            let (bid, offer, _) = source.read(place, time)?;
-            as_a_price(place, ticks.mid(leg, bid, offer))
-        }
-        _ => Err(Refusal {
-            cause: Cause::WrongLetter,
-            place: 0,
-        }),
-    }
-}
-
+// Source, place and time stay three parameters: a caller asks for any place of any source at any time.
 /// What a leg, or a limit that meets a leg, comes to at a time, at the place of its symbol. The mid is rounded up for a
 /// selling leg and down for a buying one.
+#[tactic(auto, using(crate::proofs::Mids::rounds, crate::proofs::Mids::amounts))]
 pub fn price_at<S: Source>(
     source: &S,
     place: usize,
@@ -115,5 +64,15 @@ pub fn price_at<S: Source>(
     ensures rounds { Rounds }
     ensures amounts { Amounts }
 {
-    price_from(source, place, time, ticks, leg, price)
+    let number = match price.letter {
+        'L' => u64::from(price.number),
+        'B' => u64::from(source.read(place, time)?.0),
+        'O' => u64::from(source.read(place, time)?.1),
+        'M' => {
+            let (bid, offer, _) = source.read(place, time)?;
+            ticks.mid(leg, bid, offer)
+        }
+        _ => return Err(Cause::WrongLetter.into()),
+    };
+    as_a_price(place, number)
 }

@@ -30,7 +30,7 @@ pub trait Source {
 /// The source at the bottom.
 #[derive(Drop)]
 pub struct Sheet {
-    rows: [Row; 64],
+    rows: [Row; PLACES],
     ghost full: { length rows ≡ 64 },
 }
 
@@ -40,7 +40,7 @@ impl Sheet {
         ensures { result.rows ≡ replicate 64 Never }
     {
         Sheet {
-            rows: [Row::Never; 64],
+            rows: [Row::Never; PLACES],
         }
     }
 }
@@ -53,36 +53,23 @@ impl Source for Sheet {
     ghost full = { λ s. s.full };
 
     fn post(&mut self, place: usize, pair: Option<Pair>, time: u32) -> Result<(), Refusal> {
+        // By index: once a row that `get_mut` lends is given back, nothing is known of the others.
         if place >= PLACES {
-            return Err(Refusal {
-                cause: Cause::NoSuchPlace,
-                place,
-            });
+            return Err(Cause::NoSuchPlace.at(place));
         }
         self.rows[place] = match pair {
-            Some(pair) => Row::Posted(pair.bid, pair.offer, time),
+            Some(pair) => Row::Posted(pair, time),
             None => Row::Gone,
         };
         Ok(())
     }
 
     fn read(&self, place: usize, _time: u32) -> Result<(u32, u32, u32), Refusal> {
-        if place >= PLACES {
-            return Err(Refusal {
-                cause: Cause::NoSuchPlace,
-                place,
-            });
-        }
-        match self.rows[place] {
-            Row::Never => Err(Refusal {
-                cause: Cause::NeverPosted,
-                place,
-            }),
-            Row::Gone => Err(Refusal {
-                cause: Cause::PriceGone,
-                place,
-            }),
-            Row::Posted(bid, offer, posted) => Ok((bid, offer, posted)),
+        match self.rows.get(place) {
+            None => Err(Cause::NoSuchPlace.at(place)),
+            Some(Row::Never) => Err(Cause::NeverPosted.at(place)),
+            Some(Row::Gone) => Err(Cause::PriceGone.at(place)),
+            Some(&Row::Posted(Pair { bid, offer }, posted)) => Ok((bid, offer, posted)),
         }
     }
 }
@@ -114,17 +101,15 @@ impl<S: Source> Source for Crossed<S> {
     }
 
     fn read(&self, place: usize, time: u32) -> Result<(u32, u32, u32), Refusal> {
-        let (bid, offer, posted) = self.below.read(place, time)?;
+        let reading @ (bid, offer, _) = self.below.read(place, time)?;
         if offer < bid {
-            return Err(Refusal {
-                cause: Cause::CrossedPair,
-                place,
-            });
+            return Err(Cause::CrossedPair.at(place));
         }
-        Ok((bid, offer, posted))
+        Ok(reading)
     }
 }
 
+// A type of its own beside `Crossed`: contracts speak of the fields of each, which one type over any test would hide.
 /// The age screen over any source: it refuses a pair that is older than its limit.
 #[derive(Drop)]
 pub struct Aged<S: Source> {
@@ -160,12 +145,9 @@ impl<S: Source> Source for Aged<S> {
     }
 
     fn read(&self, place: usize, time: u32) -> Result<(u32, u32, u32), Refusal> {
-        let reading = self.below.read(place, time)?;
-        if time.saturating_sub(reading.2) > self.limit {
-            return Err(Refusal {
-                cause: Cause::TooOld,
-                place,
-            });
+        let reading @ (_, _, posted) = self.below.read(place, time)?;
+        if time.saturating_sub(posted) > self.limit {
+            return Err(Cause::TooOld.at(place));
         }
         Ok(reading)
     }
@@ -177,21 +159,6 @@ pub fn stack(limit: u32) -> Crossed<Aged<Sheet>>
     ensures limit { result.below.limit ≡ min limit 86400000 }
 {
     Crossed::over(Aged::over(Sheet::new(), limit))
-}
-
-fn read_after_post<S: Source>(
-    source: &mut S,
-    place: usize,
-    pair: Option<Pair>,
-    posted: u32,
-    time: u32,
-) -> Result<(u32, u32, u32), Refusal>
-    ensures answer { result ≡ read_answer (post_rows (S.rows source.old) place (row_of pair posted)) (S.screen source.old) place time }
-    ensures rows { S.rows source.new ≡ post_rows (S.rows source.old) place (row_of pair posted) }
-    ensures screen { S.screen source.new ≡ S.screen source.old }
-{
-    source.post(place, pair, posted)?;
-    source.read(place, time)
 }
 
 /// Posts to any source and reads back: what the screen says of the row that was posted, whatever stood there before.
@@ -206,5 +173,6 @@ pub fn post_and_read<S: Source>(
     ensures rows { S.rows source.new ≡ post_rows (S.rows source.old) place (row_of pair posted) }
     ensures screen { S.screen source.new ≡ S.screen source.old }
 {
-    read_after_post(source, place, pair, posted, time)
+    source.post(place, pair, posted)?;
+    source.read(place, time)
 }
