@@ -1,7 +1,6 @@
 -- Every trade is a good one. Assumes nothing.
 use Rattle.std.proofs.Common.{◌≡◌, ℕ, zero, suc, ◌+◌, ◌-◌, ◌≤◌, true, false, cond, not, ◌&&◌, eqb, List, [], ◌∷◌, ◌++◌, map, get_or, set, Some, None, Ok, Err, Option, Result, unwrap_or, sym, refl, ap, ◌∙◌, subst, append_assoc, append-nil, arith, eqb-true}
 use Rattle.std.specs.List.{AllByRecursion as Every}
-use Rattle.std.proofs.ByRecursion.{all_shuffled}
 use Rattle.std.proofs.lemmas.Bool.{cond_both, and_parts, or_parts, not-false, leb-true}
 use Rattle.records.specs.declared.causes.Refusal.{Refusal}
 use Rattle.records.proofs.Unless.{granted}
@@ -18,7 +17,7 @@ use Rattle.venue.specs.Laws.{Turns, Turns.finished, Turns.passed, Turns.traded}
 use Rattle.venue.specs.Quantities.{Within, Between, Good, Made, TradesAreGood}
 use Rattle.venue.proofs.Filling.{fills_by_turns}
 use Rattle.venue.proofs.Replies.{judged}
-use Rattle.venue.proofs.Sorting.{sorted_quotes}
+use Rattle.venue.proofs.Sorting.{all_shuffled, sorted_quotes}
 
 -- what is known of two prices that stand in the right order
 pub record Had (side : Side) (price limit : Option ℕ) : Type 0 where

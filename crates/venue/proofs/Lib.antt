@@ -1,6 +1,6 @@
 mod Agreeing
 mod Beside
-mod Counting
+pub mod Counting
 pub mod Dealing
 mod Ending
 mod Filling

@@ -2,8 +2,9 @@
 use prices::rows::Ticks;
 use records::parts::Price;
 
+// A flag and not an `Option`: who was not entered is a row that answers each question about users. `late` is a plain yes or no.
 /// A user, at the place of its number.
-#[derive(Clone, Copy)]
+#[derive(Clone, Copy, Debug, Default, PartialEq, Eq)]
 pub struct User {
     pub entered: bool,
     pub rank: u8,
@@ -11,7 +12,7 @@ pub struct User {
 }
 
 /// A symbol, at its place.
-#[derive(Clone, Copy)]
+#[derive(Clone, Copy, Debug, Default, PartialEq, Eq)]
 pub struct Symbol {
     pub name: [u8; 8],
     pub ticks: Ticks,
@@ -19,15 +20,17 @@ pub struct Symbol {
 }
 
 /// Which way a requestor trades.
-#[derive(Clone, Copy)]
+#[derive(Clone, Copy, Debug, Default, PartialEq, Eq)]
 pub enum Side {
+    #[default]
     Buy,
     Sell,
 }
 
 /// Whether a request is open, or how it ended. The first is the life of a request that was never entered.
-#[derive(Clone, Copy)]
+#[derive(Clone, Copy, Debug, Default, PartialEq, Eq)]
 pub enum Life {
+    #[default]
     Absent,
     Open,
     Cancelled,
@@ -37,7 +40,7 @@ pub enum Life {
 }
 
 /// A request as it was entered, with what became of it.
-#[derive(Clone, Copy)]
+#[derive(Clone, Copy, Debug, Default, PartialEq, Eq)]
 pub struct Request {
     pub requestor: u8,
     /// The place of its symbol.
@@ -52,8 +55,9 @@ pub struct Request {
     pub life: Life,
 }
 
+// What was entered stays when a quote ends, so the flag is its state and no `Option` of the rest; the same of a trade.
 /// A quote as it was entered, and whether it lives.
-#[derive(Clone, Copy)]
+#[derive(Clone, Copy, Debug, Default, PartialEq, Eq)]
 pub struct Quote {
     pub user: u8,
     /// The number of its request.
@@ -67,7 +71,7 @@ pub struct Quote {
 }
 
 /// A trade, with the numbers of its request and its quote.
-#[derive(Clone, Copy)]
+#[derive(Clone, Copy, Debug, Default, PartialEq, Eq)]
 pub struct Trade {
     pub request: u16,
     pub quote: u16,
@@ -79,7 +83,7 @@ pub struct Trade {
 }
 
 /// An executable quote, with what places it in the order of an acceptance.
-#[derive(Clone, Copy)]
+#[derive(Clone, Copy, Debug, Default, PartialEq, Eq)]
 pub struct Candidate {
     pub side: Side,
     pub price: u32,
@@ -89,15 +93,16 @@ pub struct Candidate {
 }
 
 /// The trades of one acceptance, which are to be reported: the day, and the first and the last of them.
-#[derive(Clone, Copy)]
+#[derive(Clone, Copy, Debug, PartialEq, Eq)]
 pub struct Report {
     pub day: u32,
     pub first: u16,
     pub last: u16,
 }
 
+// The letters of calls are letters: any may be given, and the wrong ones are refused by their number.
 /// A user who is to be entered: Y or N says whether the user's trades may be late.
-#[derive(Clone, Copy)]
+#[derive(Clone, Copy, Debug, PartialEq, Eq)]
 pub struct NewUser {
     pub user: u8,
     pub rank: u8,
@@ -105,7 +110,7 @@ pub struct NewUser {
 }
 
 /// A symbol that is to be entered.
-#[derive(Clone, Copy)]
+#[derive(Clone, Copy, Debug, PartialEq, Eq)]
 pub struct NewSymbol {
     pub name: [u8; 8],
     pub tick: u32,
@@ -113,7 +118,7 @@ pub struct NewSymbol {
 }
 
 /// An entry. What may lack in its record may lack here.
-#[derive(Clone, Copy)]
+#[derive(Clone, Copy, Debug, PartialEq, Eq)]
 pub struct Entry {
     pub user: u8,
     pub name: [u8; 8],
@@ -127,7 +132,7 @@ pub struct Entry {
 }
 
 /// A new quote, perhaps in the place of an old one.
-#[derive(Clone, Copy)]
+#[derive(Clone, Copy, Debug, PartialEq, Eq)]
 pub struct Offering {
     pub user: u8,
     pub request: u16,
@@ -140,7 +145,7 @@ pub struct Offering {
 }
 
 /// An acceptance of one to eight quotes.
-#[derive(Clone, Copy)]
+#[derive(Clone, Copy, Debug, PartialEq, Eq)]
 pub struct Acceptance {
     pub user: u8,
     pub request: u16,
@@ -150,7 +155,7 @@ pub struct Acceptance {
 }
 
 /// A posting: both prices, or neither for gone.
-#[derive(Clone, Copy)]
+#[derive(Clone, Copy, Debug, PartialEq, Eq)]
 pub struct Posting {
     pub name: [u8; 8],
     pub bid: Option<u32>,
@@ -158,7 +163,7 @@ pub struct Posting {
 }
 
 /// A question for a price.
-#[derive(Clone, Copy)]
+#[derive(Clone, Copy, Debug, PartialEq, Eq)]
 pub struct PriceQuestion {
     pub name: [u8; 8],
     pub letter: char,
