@@ -1,3 +1,1 @@
-pub mod Front
-pub mod Spelled
 pub mod Spelling

@@ -1,24 +1,82 @@
--- Names, one byte at a time. Assumes nothing.
-use Rattle.std.proofs.Common.{◌≡◌, ℕ, ◌+◌, ◌<◌, ◌≤◌, true, false, ◌&&◌, ◌||◌, eqb, List, [], ◌∷◌, length, get_or, drop, ap, ◌∙◌, arith}
+-- Names, by what their bytes are. Assumes nothing.
+use Rattle.std.proofs.Common.{◌≡◌, ℕ, suc, ◌+◌, ◌≤◌, Bool, true, false, not, cond, ◌&&◌, ◌||◌, eqb, ltb, Option, Some, None, List, [], ◌∷◌, length, drop, refl, sym, ap, ◌∙◌, arith}
+use Rattle.std.specs.List.{list_all, position_or_len}
+use Rattle.std.specs.Ordering.{is_lt, nat_cmp, is_some_and}
+use Rattle.std.specs.Cmp.Lexicographic.{slice_cmp, slice_partial_cmp}
+use Rattle.std.specs.Option.{unwrap_or}
 use Rattle.std.specs.Str.{bytes_eq}
-use Rattle.std.proofs.lemmas.List.{drop_more, drop_all}
 use Rattle.std.proofs.lemmas.Bool.Decides.{nat_tests}
-use Rattle.venue.specs.Days.{sign, blanks, padded}
+use Rattle.std.proofs.lemmas.Cmp.{same_from_slice_cmp, same_from_slice_cmp_tested}
+use Rattle.std.proofs.lemmas.List.Sums.{prefix_len-le-length}
+use Rattle.venue.specs.Days.{sign, blanks, padded, name_before, place_from}
 use Rattle.venue.specs.declared.rows.Symbol.{Symbol}
 
-pub padded_sign : (b : ℕ) (bs : List ℕ) → sign b ≡ true → padded (b ∷ bs) ≡ padded bs
+pub all_blank : (bs : List ℕ) → list_all (λ b. eqb b 32) bs ≡ blanks bs
+all_blank [] = refl
+all_blank (b ∷ bs) = ap (λ e. eqb b 32 && e) (all_blank bs)
+
+-- where the signs end, if they do
+abbrev pub signs_end : List ℕ → ℕ
+signs_end = position_or_len (λ b. not (sign b))
+
+padded_sign : (b : ℕ) (bs : List ℕ) → sign b ≡ true → padded (b ∷ bs) ≡ padded bs
 padded_sign b bs h = grind (arith, nat_tests)
 
-pub padded_other : (b : ℕ) (bs : List ℕ) → sign b ≡ false → padded (b ∷ bs) ≡ blanks (b ∷ bs)
-padded_other b bs h = ap (λ s. (s && padded bs) || (eqb b 32 && blanks bs)) h
+padded_by : (b : ℕ) (bs : List ℕ) (s : Bool) → s ≡ sign b → blanks (drop (signs_end bs) bs) ≡ padded bs → blanks (drop (cond (not (not s)) (1 + signs_end bs) 0) (b ∷ bs)) ≡ padded (b ∷ bs)
+padded_by b bs true e step = let k : 1 + signs_end bs ≡ suc (signs_end bs) = omega arith in ap (λ n. blanks (drop n (b ∷ bs))) k ∙ step ∙ sym (padded_sign b bs (sym e))
+padded_by b bs false e step = ap (λ s. (s && padded bs) || (eqb b 32 && blanks bs)) e
 
-module _ (xs ys : List ℕ) (i : ℕ) where
-  pub same_step : i < length xs → i < length ys → bytes_eq (drop i xs) (drop i ys) ≡ (eqb (get_or xs i 0) (get_or ys i 0) && bytes_eq (drop (i + 1) xs) (drop (i + 1) ys))
-  same_step h k = ap (λ l. bytes_eq l (drop i ys)) (drop_more xs i 0 h) ∙ ap (bytes_eq (get_or xs i 0 ∷ drop (i + 1) xs)) (drop_more ys i 0 k)
+padded_from : (bs : List ℕ) → blanks (drop (signs_end bs) bs) ≡ padded bs
+padded_from [] = refl
+padded_from (b ∷ bs) = padded_by b bs (sign b) refl (padded_from bs)
 
-  pub same_all : length xs ≤ i → length ys ≤ i → bytes_eq (drop i xs) (drop i ys) ≡ true
-  same_all h k = ap (λ l. bytes_eq l (drop i ys)) (drop_all i xs h) ∙ ap (bytes_eq []) (drop_all i ys k)
+within : (n k : ℕ) → n ≤ k → unwrap_or (cond (ltb n k) (Some n) None) k ≡ n
+within n k h = grind (arith, nat_tests)
 
--- what a symbol is read as past the end of an array
-abbrev pub unread_symbol : Symbol
-unread_symbol = record { name = []; ticks = record { tick = 0 }; large = 0 }
+-- what stands behind the signs is blank where a name is padded, however the end of the signs was found
+pub padded_is : (bs : List ℕ) (r : Option ℕ) → r ≡ cond (ltb (signs_end bs) (length bs)) (Some (signs_end bs)) None → blanks (drop (unwrap_or r (length bs)) bs) ≡ padded bs
+padded_is bs r h =
+    ap (λ o. blanks (drop (unwrap_or o (length bs)) bs)) h
+    ∙ ap (λ n. blanks (drop n bs)) (within (signs_end bs) (length bs) (prefix_len-le-length _ bs))
+    ∙ padded_from bs
+
+-- the order of texts is that of names where both have as many bytes
+abbrev pub before : List ℕ → List ℕ → Bool
+before [] [] = false
+before [] (y ∷ ys) = true
+before (x ∷ xs) [] = false
+before (x ∷ xs) (y ∷ ys) = cond (ltb x y) true (cond (ltb y x) false (before xs ys))
+
+same_before : (xs ys : List ℕ) → length xs ≡ length ys → before xs ys ≡ name_before xs ys
+same_before [] [] h = refl
+same_before [] (y ∷ ys) h = absurd (omega arith)
+same_before (x ∷ xs) [] h = refl
+same_before (x ∷ xs) (y ∷ ys) h = ap (λ e. cond (ltb x y) true (cond (ltb y x) false e)) (same_before xs ys (omega arith))
+
+pub before_is : (xs ys : List ℕ) → length xs ≡ length ys → is_lt (slice_cmp nat_cmp xs ys) ≡ name_before xs ys
+before_is xs ys same =
+    same_from_slice_cmp nat_cmp is_lt before refl (λ _ _. refl) (λ _ _. refl) (λ x y xs ys o h. grind (arith, nat_tests)) xs ys _ refl
+    ∙ same_before xs ys same
+
+pub name_before_is : (xs ys : List ℕ) → length xs ≡ length ys → (r : Bool) → r ≡ is_some_and is_lt (slice_partial_cmp (λ x y. Some (nat_cmp x y)) xs ys) → r ≡ name_before xs ys
+name_before_is xs ys same r h =
+    same_from_slice_cmp_tested nat_cmp is_lt before refl (λ _ _. refl) (λ _ _. refl) (λ x y xs ys o h. grind (arith, nat_tests)) xs ys r h
+    ∙ same_before xs ys same
+
+-- the place of a name among symbols, by where they stand
+abbrev pub has_name : List ℕ → Symbol → Bool
+has_name name y = bytes_eq y.name name
+
+place_by : (i : ℕ) (b : Bool) (p n : ℕ) (r : Option ℕ) → cond (ltb p n) (Some (i + 1 + p)) None ≡ r → cond (ltb (cond (not b) (1 + p) 0) (suc n)) (Some (i + cond (not b) (1 + p) 0)) None ≡ cond b (Some i) r
+place_by i true p n r h = grind (arith, nat_tests)
+place_by i false p n r h = grind (arith, nat_tests)
+
+place_from_is : (i : ℕ) (ys : List Symbol) (name : List ℕ) → cond (ltb (position_or_len (has_name name) ys) (length ys)) (Some (i + position_or_len (has_name name) ys)) None ≡ place_from i ys name
+place_from_is i [] name = refl
+place_from_is i (y ∷ ys) name = place_by i (has_name name y) (position_or_len (has_name name) ys) (length ys) _ (place_from_is (i + 1) ys name)
+
+pub place_is : (ys : List Symbol) (name : List ℕ) → cond (ltb (position_or_len (has_name name) ys) (length ys)) (Some (position_or_len (has_name name) ys)) None ≡ place_from 0 ys name
+place_is ys name =
+    let p = position_or_len (has_name name) ys in
+    let e : p ≡ 0 + p = omega arith in
+    ap (λ q. cond (ltb p (length ys)) (Some q) None) e ∙ place_from_is 0 ys name

@@ -1,6 +1,7 @@
 -- The day that the tables stand for.
 -- Assumes nothing.
-use Rattle.std.specs.Prelude.{◌≡◌, ℕ, ◌≤◌, min, Bool, false, ◌&&◌, List, [], length, take, drop, ◌==◌}
+use Rattle.std.specs.Prelude.{ℕ, min, Bool, false, ◌&&◌, List, [], take, drop, ◌==◌}
+use Rattle.arrayvec.specs.ArrayVec.{array_vec_len}
 use Rattle.prices.specs.declared.rows.Row.{Row}
 use Rattle.prices.specs.Rows.{Screen, bare}
 use Rattle.venue.specs.Days.{Day, request_of, quote_of, open_of, remaining_of, is_open}
@@ -16,12 +17,12 @@ day_of t rows screen =
       clock = t.clock;
       closed = false;
       users = t.users;
-      symbols = take t.symbol_count t.symbols;
-      requests = take t.request_count t.requests;
-      opens = take t.request_count t.quantities;
-      quotes = take t.quote_count t.quotes;
-      remains = take t.quote_count (drop 128 t.quantities);
-      trades = take t.trade_count t.trades;
+      symbols = t.symbols.items;
+      requests = t.requests.items;
+      opens = take (array_vec_len t.requests) t.quantities;
+      quotes = t.quotes.items;
+      remains = take (array_vec_len t.quotes) (drop 128 t.quantities);
+      trades = t.trades.items;
       rows = rows;
       screen = screen;
     }
@@ -32,23 +33,7 @@ bare_day t = day_of t [] bare
 
 -- what was entered before the day opened
 abbrev pub setting_of : Tables → Setting
-setting_of t = record { users = t.users; symbols = take t.symbol_count t.symbols }
-
--- so many rows of an array are in use
-abbrev pub Within : {X : Type 0} → ℕ → List X → ℕ → Type 0
-Within n xs places = (n ≤ places) × (length xs ≡ places)
-
--- arrays that are always full, and tables with no more rows than places
-abbrev pub Sized : Tables → Type 0
-Sized t = (length t.users ≡ 64) × (length t.quantities ≡ 640)
-
-abbrev pub Counted : Tables → Type 0
-Counted t =
-    (Within t.symbol_count t.symbols 64 × Within t.request_count t.requests 128)
-    × (Within t.quote_count t.quotes 512 × Within t.trade_count t.trades 512)
-
-abbrev pub Sound : Tables → Type 0
-Sound t = Sized t × Counted t
+setting_of t = record { users = t.users; symbols = t.symbols.items }
 
 -- two parts of what makes a quote executable: the request is open and the quote a live one on it, and the smaller of what is
 -- open and what remains meets both minimums

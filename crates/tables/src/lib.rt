@@ -1,8 +1,11 @@
-// The inner tables of a day. Their functions ask that the tables are sound; the forms of a day keep them so.
+// The inner tables of a day: look-ups, prices now, and what is asked of values.
 #![tactic(auto)]
 
+pub mod facts;
 pub mod inner;
+pub mod lists;
 pub mod look;
+pub mod market;
 pub mod names;
-pub mod trading;
+pub mod rows;
 pub mod values;

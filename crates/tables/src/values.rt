@@ -1,5 +1,5 @@
 // What is asked of the values of a call, whatever the day is.
-ghost use Rattle.std.specs.Prelude.{◌≡◌, ◌%◌, not, ◌||◌, is_some, if◌then◌else◌, nat_le};
+ghost use Rattle.std.specs.Prelude.{◌≡◌, not, ◌||◌, is_some, if◌then◌else◌, nat_le};
 ghost use Rattle.venue.specs.Calls.{a_price, amount, beyond, expiry_of, minimum_of, misformed, off_tick, shown_of, whenever};
 ghost use Rattle.venue.specs.Parts.{entry_beyond, entry_misformed, offering_beyond, offering_off_tick, posting_beyond};
 ghost use Rattle.venue.specs.Days.{bit};
@@ -21,9 +21,6 @@ const LAST_EXPIRY: u32 = 63_000_000;
 const LAST_USER: u8 = 63;
 
 const MOST_SHOWN: u8 = 31;
-
-/// The bits of a set of users.
-const BITS: u8 = 64;
 
 /// A minimum that lacks is 1, an expiry the end of the day, and a shown set shows nothing.
 pub fn minimum_given(minimum: Option<u32>) -> u32
@@ -48,14 +45,14 @@ pub fn shown_given(shown: Option<u8>) -> u8
 pub fn is_amount(n: u32) -> bool
     ensures { result ≡ amount n }
 {
-    1 <= n && n <= MOST_AMOUNT
+    (1..=MOST_AMOUNT).contains(&n)
 }
 
 /// Whether a number can be a price.
 fn is_price(n: u32) -> bool
     ensures { result ≡ a_price n }
 {
-    1 <= n && n <= MOST_PRICE
+    (1..=MOST_PRICE).contains(&n)
 }
 
 /// Whether a price has a number of its own that is out of range.
@@ -65,66 +62,19 @@ fn is_beyond(price: Price) -> bool
     price.letter == 'L' && !is_price(price.number)
 }
 
-/// What is left of a number after as many of the others as fit: all of it where that is 0.
-fn remainder(n: u32, by: u32) -> u32
-    ensures { result ≡ n % by }
-{
-    if by == 0 { n } else { n % by }
-}
-
 /// Whether a price has a number of its own that is no multiple of the tick.
 pub fn is_off_tick(ticks: Ticks, price: Price) -> bool
     ensures { result ≡ off_tick ticks price }
 {
-    price.letter == 'L' && remainder(price.number, ticks.at(2 * u64::from(price.number))) != 0
-}
-
-/// The same three questions of a leg that may lack.
-fn is_leg_misformed(leg: Option<Price>) -> bool
-    ensures { result ≡ whenever leg misformed }
-{
-    match leg {
-        Some(price) => !price_fits(price),
-        None => false,
-    }
-}
-
-fn is_leg_beyond(leg: Option<Price>) -> bool
-    ensures { result ≡ whenever leg beyond }
-{
-    match leg {
-        Some(price) => is_beyond(price),
-        None => false,
-    }
-}
-
-fn is_leg_off_tick(ticks: Ticks, leg: Option<Price>) -> bool
-    ensures { result ≡ whenever leg (off_tick ticks) }
-{
-    match leg {
-        Some(price) => is_off_tick(ticks, price),
-        None => false,
-    }
-}
-
-/// Whether a price that may lack is out of range.
-fn is_posted_beyond(price: Option<u32>) -> bool
-    ensures { result ≡ whenever price (λ n. not (a_price n)) }
-{
-    match price {
-        Some(n) => !is_price(n),
-        None => false,
-    }
+    let tick = ticks.at(2 * u64::from(price.number));
+    price.letter == 'L' && !price.number.is_multiple_of(tick)
 }
 
 /// Whether a set has the bit of a user.
 pub fn has_bit(set: u64, user: u8) -> bool
     ensures { result ≡ bit set user }
 {
-    if user >= BITS {
-        return false;
-    }
-    (set >> user) % 2 == 1
+    u32::from(user) < u64::BITS && (set >> user) % 2 == 1
 }
 
 /// Whether a number can be a user's.
@@ -138,11 +88,9 @@ pub fn is_user(user: u8) -> bool
 pub fn is_entry_misformed(entry: &Entry) -> bool
     ensures { result ≡ entry_misformed entry.now }
 {
-    let side = match entry.side {
-        'B' | 'S' => true,
-        _ => false,
-    };
-    !side || !price_fits(entry.limit) || shown_given(entry.shown) > MOST_SHOWN
+    !matches!(entry.side, 'B' | 'S')
+        || !price_fits(entry.limit)
+        || shown_given(entry.shown) > MOST_SHOWN
 }
 
 /// Whether a value or the name of an entry is out of range.
@@ -161,7 +109,8 @@ pub fn is_entry_beyond(entry: &Entry) -> bool
 pub fn is_offering_misformed(offering: &Offering) -> bool
     ensures { result ≡ (whenever offering.now.selling misformed || whenever offering.now.buying misformed) }
 {
-    is_leg_misformed(offering.selling) || is_leg_misformed(offering.buying)
+    offering.selling.is_some_and(|price| !price_fits(price))
+        || offering.buying.is_some_and(|price| !price_fits(price))
 }
 
 /// Whether a value of a quote is out of range.
@@ -170,8 +119,8 @@ pub fn is_offering_beyond(offering: &Offering) -> bool
 {
     !is_user(offering.user)
         || !is_amount(offering.quantity)
-        || is_leg_beyond(offering.selling)
-        || is_leg_beyond(offering.buying)
+        || offering.selling.is_some_and(is_beyond)
+        || offering.buying.is_some_and(is_beyond)
         || !is_amount(minimum_given(offering.minimum))
         || expiry_given(offering.expiry) > LAST_EXPIRY
 }
@@ -180,22 +129,26 @@ pub fn is_offering_beyond(offering: &Offering) -> bool
 pub fn is_offering_off_tick(ticks: Ticks, offering: &Offering) -> bool
     ensures { result ≡ offering_off_tick ticks offering.now }
 {
-    is_leg_off_tick(ticks, offering.selling) || is_leg_off_tick(ticks, offering.buying)
+    offering
+        .selling
+        .is_some_and(|price| is_off_tick(ticks, price))
+        || offering
+            .buying
+            .is_some_and(|price| is_off_tick(ticks, price))
 }
 
 /// Whether a posting has one of its two prices alone.
 pub fn is_posting_halved(posting: &Posting) -> bool
     ensures { result ≡ (if is_some posting.now.bid then not (is_some posting.now.offer) else is_some posting.now.offer) }
 {
-    match (posting.bid, posting.offer) {
-        (Some(_), None) | (None, Some(_)) => true,
-        _ => false,
-    }
+    posting.bid.is_some() != posting.offer.is_some()
 }
 
 /// Whether the name or a price of a posting is out of range.
 pub fn is_posting_beyond(posting: &Posting) -> bool
     ensures { result ≡ posting_beyond posting.now }
 {
-    !is_name(&posting.name) || is_posted_beyond(posting.bid) || is_posted_beyond(posting.offer)
+    !is_name(&posting.name)
+        || posting.bid.is_some_and(|price| !is_price(price))
+        || posting.offer.is_some_and(|price| !is_price(price))
 }

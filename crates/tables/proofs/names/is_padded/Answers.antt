@@ -1,24 +1,15 @@
-use Rattle.std.proofs.Common.{◌+◌, get_or, drop, sym, ap, ◌∙◌}
-use Rattle.std.proofs.lemmas.List.{at_drop_more, at_drop_all}
-use Rattle.venue.specs.Days.{blanks, padded}
-use Rattle.tables.proofs.Spelling.{padded_sign, padded_other}
+use Rattle.std.proofs.Common.{not, ◌-◌, length, drop, ap, ◌∙◌, rules, tests, arith, length-drop}
+use Rattle.std.proofs.lemmas.Iterator.{YieldsList-from_slice}
+use Rattle.std.proofs.lemmas.Iterator.Search.{position_from_yields_List}
+use Rattle.std.proofs.lemmas.List.{take_all}
+use Rattle.venue.specs.Days.{sign, blanks}
+use Rattle.tables.proofs.Spelling.{padded_is}
 use Rattle.tables.proofs.names.is_padded.Goals as goal
 
-pub returns-then-not-is_sign : goal.returns-then-not-is_sign
-returns-then-not-is_sign c =
-    let bs = c.args.bytes.now in
-    let i = c.loop-i.i in
-    let h = c.loop-i-test.true in
-    c.is_blank.ensures
-    ∙ ap blanks c.split_at.ensures.back
-    ∙ at_drop_more blanks bs i 0 h
-    ∙ sym (c.loop-i.invariant ∙ at_drop_more padded bs i 0 h ∙ padded_other (get_or bs i 0) (drop (i + 1) bs) (sym c.is_sign.ensures ∙ c.if-not-is_sign.true))
-
-pub loop-i-preserved : goal.loop-i-preserved
-loop-i-preserved c =
-    let bs = c.args.bytes.now in
-    let i = c.loop-i.i in
-    c.loop-i.invariant ∙ at_drop_more padded bs i 0 c.loop-i-test.true ∙ padded_sign (get_or bs i 0) (drop (i + 1) bs) (sym c.is_sign.ensures ∙ c.if-not-is_sign.false)
-
 pub returns : goal.returns
-returns c = sym (c.loop-i.invariant ∙ at_drop_all padded c.args.bytes.now c.loop-i.i c.loop-i-test.false)
+returns c =
+    let bytes = c.args.bytes.now in
+    let found = position_from_yields_List (λ b. not (sign b)) _ _ _ c.position.ensures.ran (YieldsList-from_slice bytes cc) (λ x b q k. search (rules, tests)) in
+    c.is_blank.ensures
+    ∙ ap blanks (take_all (length bytes - c.unwrap_or-end.result) _ (omega (arith, length-drop c.unwrap_or-end.result bytes)) ∙ ap (λ n. drop n bytes) c.unwrap_or-end.ensures)
+    ∙ padded_is bytes c.position.result found
