@@ -1,2 +1,1 @@
-pub mod Edited
-pub mod Tabling
+pub mod Swept

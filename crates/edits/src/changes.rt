@@ -1,16 +1,20 @@
-// What each call that is carried out writes. Each leaves the day that the model gives, and the tables sound.
-ghost use Rattle.std.specs.Prelude.{◌≡◌, ◌+◌, ◌-◌, ◌<◌, ◌≤◌, length, take};
-ghost use Rattle.tables.specs.Tabled.{Sound, bare_day};
+// What each call that is carried out writes. Each leaves the day that the model gives.
+ghost use Rattle.std.specs.Prelude.{◌≡◌, ◌+◌, ◌-◌, ◌<◌};
+ghost use Rattle.arrayvec.specs.ArrayVec.{array_vec_len};
+ghost use Rattle.tables.specs.Tabled.{bare_day};
 ghost use Rattle.venue.specs.Calls.{Call.cancel, Call.close, Call.enter, Call.file, Call.move_clock, Call.offer, Call.pull};
-ghost use Rattle.venue.specs.Model.{apply, entered, expired_quotes, filed, offered, shut, side_of, without_old};
+ghost use Rattle.venue.specs.Model.{apply, entered, filed, offered, shut, side_of, without_old, without_quote};
 
-use super::rows::{end_quote_numbered, end_request_numbered, file_trade_numbered};
-use super::sweeps::{EndAll, EndAs, EndOf, Expire, ExpireQuotes, sweep};
-use tables::inner::{REQUESTS, Tables};
-use tables::names::place_named;
+use super::sweeps::sweep;
+use arrayvec::ArrayVec;
+use tables::facts::is_open;
+use tables::inner::{QUOTES, REQUESTS, TRADES, Tables};
+use tables::look::numbered;
+use tables::rows::{end_quote, end_request, numbered_mut};
 use tables::values::{expiry_given, minimum_given, shown_given};
 use venue::rows::{Entry, Life, Offering, Quote, Report, Request, Side, Trade};
 
+// The letter was judged before: a `TryFrom` would have to refuse what cannot come.
 /// The side that a letter means.
 fn side_meant(letter: char) -> Side
     ensures { result ≡ side_of letter }
@@ -23,12 +27,12 @@ fn side_meant(letter: char) -> Side
 
 /// The request that an entry makes.
 fn request_made(t: &Tables, entry: &Entry) -> Request
-    requires { Sound t.now }
     ensures { result ≡ entered (bare_day t.now) entry.now }
 {
     Request {
         requestor: entry.user,
-        place: place_named(t, &entry.name).unwrap_or(0),
+        // As in the day: a name that is no symbol's was refused before.
+        place: t.place_of(&entry.name).unwrap_or(0),
         recipients: entry.recipients,
         side: side_meant(entry.side),
         quantity: entry.quantity,
@@ -58,21 +62,26 @@ fn quote_made(offering: &Offering) -> Quote
 
 /// Adds the request of an entry.
 pub fn add_request(t: &mut Tables, entry: &Entry)
-    requires sound { Sound t.old }
-    requires room { t.old.request_count < 128 }
-    ensures day { bare_day t.new ≡ apply (bare_day t.old) (enter entry.now) }
-    ensures sound { Sound t.new }
+    requires { array_vec_len t.old.requests < 128 }
+    ensures { bare_day t.new ≡ apply (bare_day t.old) (enter entry.now) }
 {
     let row = request_made(t, entry);
-    let n = t.request_count;
-    t.requests[n] = row;
-    t.quantities[n] = entry.quantity;
-    t.request_count = n + 1;
+    t.quantities[t.requests.len()] = entry.quantity;
+    t.requests.push(row);
+}
+
+/// Ends the quote with a number.
+fn end_quote_numbered(quotes: &mut ArrayVec<Quote, QUOTES>, q: u16)
+    ensures { quotes.new.items ≡ without_quote q quotes.old.items }
+{
+    if let Some(quote) = numbered_mut(quotes, q) {
+        end_quote(quote);
+    }
 }
 
 /// Ends the quote that a new one replaces.
-fn end_old(quotes: &mut [Quote], old: Option<u16>)
-    ensures { quotes.new ≡ without_old old quotes.old }
+fn end_old(quotes: &mut ArrayVec<Quote, QUOTES>, old: Option<u16>)
+    ensures { quotes.new.items ≡ without_old old quotes.old.items }
 {
     if let Some(q) = old {
         end_quote_numbered(quotes, q);
@@ -81,82 +90,79 @@ fn end_old(quotes: &mut [Quote], old: Option<u16>)
 
 /// Adds the quote of an offering, and ends the one that it replaces.
 pub fn add_quote(t: &mut Tables, offering: &Offering)
-    requires sound { Sound t.old }
-    requires room { t.old.quote_count < 512 }
-    ensures day { bare_day t.new ≡ apply (bare_day t.old) (offer offering.now) }
-    ensures sound { Sound t.new }
+    requires { array_vec_len t.old.quotes < 512 }
+    ensures { bare_day t.new ≡ apply (bare_day t.old) (offer offering.now) }
 {
     end_old(&mut t.quotes, offering.old);
-    let n = t.quote_count;
-    t.quotes[n] = quote_made(offering);
-    t.quantities[REQUESTS + n] = offering.quantity;
-    t.quote_count = n + 1;
+    t.quantities[REQUESTS + t.quotes.len()] = offering.quantity;
+    t.quotes.push(quote_made(offering));
 }
 
 /// Ends a quote that is pulled.
 pub fn pull_quote(t: &mut Tables, q: u16)
-    requires { Sound t.old }
-    ensures day { bare_day t.new ≡ apply (bare_day t.old) (pull 0 q) }
-    ensures sound { Sound t.new }
+    ensures { bare_day t.new ≡ apply (bare_day t.old) (pull 0 q) }
 {
     end_quote_numbered(&mut t.quotes, q);
 }
 
 /// Ends a request that is cancelled, and its quotes.
 pub fn cancel_request(t: &mut Tables, n: u16)
-    requires { Sound t.old }
-    ensures day { bare_day t.new ≡ apply (bare_day t.old) (cancel 0 n) }
-    ensures sound { Sound t.new }
+    ensures { bare_day t.new ≡ apply (bare_day t.old) (cancel 0 n) }
 {
-    end_request_numbered(&mut t.requests, n, Life::Cancelled);
-    sweep(&mut t.quotes, &EndOf { request: n });
+    sweep(&mut t.quotes, |quote| {
+        if quote.request == n {
+            end_quote(quote);
+        }
+    });
+    if let Some(request) = numbered_mut(&mut t.requests, n) {
+        end_request(request, Life::Cancelled);
+    }
 }
 
-/// Ends the quotes that have expired at a time, and those of requests that are not open among the first `count`.
-fn expire_quotes(quotes: &mut [Quote], requests: &[Request], count: usize, time: u32)
-    requires { count ≤ length requests.now }
-    ensures { quotes.new ≡ expired_quotes time (take count requests.now) quotes.old }
-{
-    let (requests, _) = requests.split_at(count);
-    sweep(quotes, &ExpireQuotes { time, requests });
-}
-
-/// Moves the clock, and ends what has expired.
+/// Moves the clock, and ends what has expired, and the quotes of requests that are not open.
 pub fn move_clock(t: &mut Tables, time: u32)
-    requires { Sound t.old }
-    ensures day { bare_day t.new ≡ apply (bare_day t.old) (move_clock time) }
-    ensures sound { Sound t.new }
+    ensures { bare_day t.new ≡ apply (bare_day t.old) (move_clock time) }
 {
-    sweep(&mut t.requests, &Expire { time });
-    let count = t.request_count;
-    expire_quotes(&mut t.quotes, &t.requests, count, time);
+    sweep(&mut t.requests, |request| {
+        if request.expiry <= time {
+            end_request(request, Life::Expired);
+        }
+    });
+    let requests = t.requests.as_slice();
+    sweep(&mut t.quotes, |quote| {
+        let request = numbered(requests, quote.request, Request::default());
+        if quote.expiry <= time || !is_open(request.life) {
+            end_quote(quote);
+        }
+    });
     t.clock = time;
 }
 
 /// Ends all requests and quotes.
 pub fn end_all(t: &mut Tables)
-    requires { Sound t.old }
-    ensures day { shut (bare_day t.new) ≡ apply (bare_day t.old) close }
-    ensures sound { Sound t.new }
+    ensures { shut (bare_day t.new) ≡ apply (bare_day t.old) close }
 {
-    sweep(&mut t.requests, &EndAs { life: Life::Closed });
-    sweep(&mut t.quotes, &EndAll {});
+    sweep(&mut t.requests, |request| {
+        end_request(request, Life::Closed);
+    });
+    sweep(&mut t.quotes, end_quote);
 }
 
+// By number, as a report names them: a part of the slice would have both ends cut to the trades that are there.
 /// Marks the trades from the first to the last as filed.
-fn file_range(trades: &mut [Trade], first: u16, last: u16)
-    ensures { trades.new ≡ filed trades.old first (last + 1 - first) }
+fn file_range(trades: &mut ArrayVec<Trade, TRADES>, first: u16, last: u16)
+    ensures { trades.new.items ≡ filed trades.old.items first (last + 1 - first) }
 {
     for n in first..=last {
-        file_trade_numbered(trades, n);
+        if let Some(trade) = numbered_mut(trades, n) {
+            trade.filed = true;
+        }
     }
 }
 
 /// Marks the trades of a report as filed.
 pub fn file_trades(t: &mut Tables, report: &Report)
-    requires { Sound t.old }
-    ensures day { bare_day t.new ≡ apply (bare_day t.old) (file report.now) }
-    ensures sound { Sound t.new }
+    ensures { bare_day t.new ≡ apply (bare_day t.old) (file report.now) }
 {
     file_range(&mut t.trades, report.first, report.last);
 }

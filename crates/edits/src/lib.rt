@@ -3,5 +3,4 @@
 
 pub mod changes;
 pub mod opening;
-pub mod rows;
 pub mod sweeps;

@@ -1,21 +1,42 @@
--- A stranger in a set, found at one number, is found by all that look further. Assumes nothing.
-use Rattle.std.proofs.Common.{◌≡◌, ℕ, zero, suc, ◌+◌, ◌-◌, ◌<◌, Bool, true, false, not, ◌&&◌, sym, ap, ◌∙◌, suc-add, zero-add, add-one, arith}
-use Rattle.std.proofs.lemmas.Bool.{or_left, or_right, or_from}
+-- What is found by going through users or trades. Assumes nothing.
+use Rattle.std.proofs.Common.{◌≡◌, ℕ, zero, suc, ◌+◌, Bool, true, false, not, ◌&&◌, ◌||◌, List, [], ◌∷◌, ◌++◌, refl, ap, ◌∙◌, arith}
+use Rattle.std.specs.List.{list_any, range_with_len}
+use Rattle.std.proofs.lemmas.List.Folds.{list_any-append}
+use Rattle.venue.specs.declared.rows.Trade.{Trade}
 use Rattle.venue.specs.Days.{Day, bit, user_of}
-use Rattle.venue.specs.Calls.{has_stranger}
+use Rattle.venue.specs.Calls.{has_stranger, unfiled}
+
+pub any_unfiled : (ts : List Trade) → list_any (λ (t : Trade). not t.filed) ts ≡ unfiled ts
+any_unfiled [] = refl
+any_unfiled (t ∷ ts) = ap (λ b. not t.filed || b) (any_unfiled ts)
+
+-- a range up to a number ends in the one below it
+range_more : (a n : ℕ) → range_with_len a (suc n) ≡ range_with_len a n ++ (a + n) ∷ []
+range_more a zero = let e : a ≡ a + 0 = omega arith in ap (λ k. k ∷ []) e
+range_more a (suc n) =
+    let e : a + 1 + n ≡ a + suc n = omega arith in
+    ap (λ l. a ∷ l) (range_more (a + 1) n ∙ ap (λ k. range_with_len (a + 1) n ++ k ∷ []) e)
+
+pub neither : (a b c : Bool) → (a || b) ≡ false → (a || (b || c)) ≡ c
+neither true b c h = ap (λ e. e || c) h
+neither false true c h = ap (λ e. e || c) h
+neither false false c h = refl
 
 module _ (d : Day) (set : ℕ) where
-  abbrev strange : ℕ → Bool
+  abbrev pub strange : ℕ → Bool
   strange n = bit set n && not (user_of d n).entered
 
-  further : (n k : ℕ) → has_stranger d set n ≡ true → has_stranger d set (k + n) ≡ true
-  further n zero h = ap (has_stranger d set) (zero-add n) ∙ h
-  further n (suc k) h = ap (has_stranger d set) (suc-add k n) ∙ or_right (strange (k + n)) (has_stranger d set (k + n)) (further n k h)
+  or_no : (a b : Bool) → (a || (b || false)) ≡ (b || a)
+  or_no true true = refl
+  or_no true false = refl
+  or_no false true = refl
+  or_no false false = refl
 
-  pub stranger_at : (n m : ℕ) → n < m → strange n ≡ true → has_stranger d set m ≡ true
-  stranger_at n m h e =
-      let is : m - suc n + suc n ≡ m = omega arith in
-      ap (has_stranger d set) (sym is) ∙ further (suc n) (m - suc n) (or_left (strange n) (has_stranger d set n) e)
-
-  pub none_yet : (n : ℕ) → strange n ≡ false → has_stranger d set n ≡ false → has_stranger d set (n + 1) ≡ false
-  none_yet n e h = ap (has_stranger d set) (add-one n) ∙ or_from (strange n) (has_stranger d set n) e h
+  pub any_stranger : (n : ℕ) → list_any strange (range_with_len 0 n) ≡ has_stranger d set n
+  any_stranger zero = refl
+  any_stranger (suc n) =
+      let e : 0 + n ≡ n = omega arith in
+      ap (list_any strange) (range_more 0 n ∙ ap (λ k. range_with_len 0 n ++ k ∷ []) e)
+      ∙ list_any-append strange (range_with_len 0 n) (n ∷ [])
+      ∙ or_no (list_any strange (range_with_len 0 n)) (strange n)
+      ∙ ap (λ b. strange n || b) (any_stranger n)

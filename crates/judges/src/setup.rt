@@ -1,13 +1,12 @@
 // Which users and symbols are taken while a day is set up.
 ghost use Rattle.std.specs.Prelude.{◌≡◌, not, ◌&&◌, ◌||◌, length, nat_le};
-ghost use Rattle.tables.specs.Tabled.{Sound, setting_of};
+ghost use Rattle.tables.specs.Tabled.{setting_of};
 ghost use Rattle.venue.specs.Days.{is_name as is_a_name};
 ghost use Rattle.venue.specs.Setting.{SetupCall.add_symbol, SetupCall.add_user, setup_judge};
 
 use records::causes::Cause;
-use tables::inner::{SYMBOLS, Tables};
-use tables::look::user_at;
-use tables::names::{is_name, place_named};
+use tables::inner::Tables;
+use tables::names::is_name;
 use tables::values::is_user;
 use venue::rows::{NewSymbol, NewUser};
 
@@ -18,17 +17,15 @@ const MOST_LARGE: u64 = 100_000_000_000_000_000;
 
 /// Whether a user can be entered.
 pub fn judge_user(t: &Tables, user: &NewUser) -> Result<(), Cause>
-    requires { Sound t.now }
     ensures { result ≡ setup_judge (setting_of t.now) (add_user user.now) }
 {
-    match user.late {
-        'Y' | 'N' => {}
-        _ => return Err(Cause::WrongLetter),
+    if !matches!(user.late, 'Y' | 'N') {
+        return Err(Cause::WrongLetter);
     }
     if !is_user(user.user) {
         return Err(Cause::OutOfRange);
     }
-    if user_at(t, user.user).entered {
+    if t.user(user.user).entered {
         return Err(Cause::EnteredBefore);
     }
     Ok(())
@@ -39,27 +36,25 @@ fn is_symbol_beyond(symbol: &NewSymbol) -> bool
     ensures { result ≡ (not (is_a_name symbol.now.name) || (not (nat_le 1 symbol.now.tick && nat_le symbol.now.tick 10000000) || not (nat_le 1 symbol.now.large && nat_le symbol.now.large 100000000000000000))) }
 {
     !is_name(&symbol.name)
-        || !(1 <= symbol.tick && symbol.tick <= MOST_TICK)
-        || !(1 <= symbol.large && symbol.large <= MOST_LARGE)
+        || !(1..=MOST_TICK).contains(&symbol.tick)
+        || !(1..=MOST_LARGE).contains(&symbol.large)
 }
 
 /// Whether there is no room for another symbol.
 fn is_full_of_symbols(t: &Tables) -> bool
-    requires { Sound t.now }
     ensures { result ≡ nat_le 64 (length (setting_of t.now).symbols) }
 {
-    t.symbol_count >= SYMBOLS
+    t.symbols.is_full()
 }
 
 /// Whether a symbol can be entered.
 pub fn judge_symbol(t: &Tables, symbol: &NewSymbol) -> Result<(), Cause>
-    requires { Sound t.now }
     ensures { result ≡ setup_judge (setting_of t.now) (add_symbol symbol.now) }
 {
     if is_symbol_beyond(symbol) {
         return Err(Cause::OutOfRange);
     }
-    if place_named(t, &symbol.name).is_some() {
+    if t.place_of(&symbol.name).is_some() {
         return Err(Cause::EnteredBefore);
     }
     if is_full_of_symbols(t) {

@@ -1,23 +1,22 @@
 // The judges: for each call the first cause, in the order of their numbers.
 ghost use Rattle.std.specs.Prelude.{◌≡◌, ◌&&◌, if◌then◌else◌, Some, None};
 ghost use Rattle.records.specs.Causes.{unless};
-ghost use Rattle.tables.specs.Tabled.{Sound, bare_day};
+ghost use Rattle.tables.specs.Tabled.{bare_day};
 ghost use Rattle.venue.specs.Calls.{Call.ask_price, Call.cancel, Call.enter, Call.move_clock, Call.offer, Call.post, Call.pull, caller_causes, form_causes};
 ghost use Rattle.venue.specs.Parts.{below_shown, offering_off_tick, place_causes, shown_causes, term_causes};
 ghost use Rattle.venue.specs.Days.{quotable, request_of, shows_side, symbol_of};
 ghost use Rattle.venue.specs.Model.{judge};
 
 use super::facts::{
-    are_recipients_wrong, holds, is_entry_off_tick, is_full_of_quotes, is_full_of_requests,
-    is_old_not_live, is_quotable, is_unknown_name, is_unknown_user, owns,
+    are_recipients_wrong, is_entry_off_tick, is_full_of_quotes, is_full_of_requests,
+    is_old_not_live, is_unknown_name,
 };
 use records::causes::Cause;
 use tables::inner::Tables;
-use tables::look::{request_at, symbol_at};
 use tables::names::is_name;
 use tables::values::{
     expiry_given, has_bit, is_entry_beyond, is_entry_misformed, is_offering_beyond,
-    is_offering_misformed, is_offering_off_tick, is_posting_beyond, is_posting_halved, is_user,
+    is_offering_misformed, is_offering_off_tick, is_posting_beyond, is_posting_halved,
     minimum_given,
 };
 use venue::rows::{Entry, Offering, Posting, PriceQuestion, Request, Side};
@@ -25,9 +24,9 @@ use venue::rows::{Entry, Offering, Posting, PriceQuestion, Request, Side};
 /// The last time to which the clock moves.
 const LAST_TIME: u32 = 62_999_999;
 
+// One test for each cause, in the order of the numbers, as in the definitions; so in every judge.
 /// Whether an entry is taken.
 pub fn judge_entry(t: &Tables, entry: &Entry) -> Result<(), Cause>
-    requires { Sound t.now }
     ensures { result ≡ judge (bare_day t.now) (enter entry.now) }
 {
     if is_entry_misformed(entry) {
@@ -36,7 +35,7 @@ pub fn judge_entry(t: &Tables, entry: &Entry) -> Result<(), Cause>
     if is_entry_beyond(entry) {
         return Err(Cause::OutOfRange);
     }
-    if is_unknown_user(t, entry.user) {
+    if t.is_unknown_user(entry.user) {
         return Err(Cause::UnknownUser);
     }
     if is_unknown_name(t, &entry.name) {
@@ -64,11 +63,7 @@ pub fn judge_entry(t: &Tables, entry: &Entry) -> Result<(), Cause>
 fn shown_side(row: &Request) -> Option<Side>
     ensures { result ≡ (if shows_side row.now then Some row.now.side else None) }
 {
-    if has_bit(u64::from(row.shown), 0) {
-        Some(row.side)
-    } else {
-        None
-    }
+    has_bit(u64::from(row.shown), 0).then_some(row.side)
 }
 
 /// Whether the quantity of a quote is below a minimum that the request shows.
@@ -93,12 +88,11 @@ fn judge_legs(row: &Request, offering: &Offering) -> Result<(), Cause>
 
 /// Whether a leg of a quote is off the tick of the request's symbol, where the request is one that the user may quote on.
 fn is_quote_off_tick(t: &Tables, offering: &Offering) -> bool
-    requires { Sound t.now }
     ensures { result ≡ (quotable (bare_day t.now) offering.now.user offering.now.request && offering_off_tick (symbol_of (bare_day t.now) (request_of (bare_day t.now) offering.now.request).place).ticks offering.now) }
 {
-    let place = request_at(t, offering.request).place;
-    is_quotable(t, offering.user, offering.request)
-        && is_offering_off_tick(symbol_at(t, place).ticks, offering)
+    let place = t.request(offering.request).place;
+    t.is_quotable(offering.user, offering.request)
+        && is_offering_off_tick(t.symbol(place).ticks, offering)
 }
 
 /// Whether a quote lacks both legs, or the form of one is wrong.
@@ -116,13 +110,12 @@ fn judge_form(offering: &Offering) -> Result<(), Cause>
 
 /// Whether the terms of a quote are in order.
 fn judge_terms(t: &Tables, offering: &Offering) -> Result<(), Cause>
-    requires { Sound t.now }
     ensures { result ≡ unless (term_causes (bare_day t.now) offering.now) tt }
 {
     if is_offering_beyond(offering) {
         return Err(Cause::OutOfRange);
     }
-    if is_unknown_user(t, offering.user) {
+    if t.is_unknown_user(offering.user) {
         return Err(Cause::UnknownUser);
     }
     if is_quote_off_tick(t, offering) {
@@ -139,10 +132,9 @@ fn judge_terms(t: &Tables, offering: &Offering) -> Result<(), Cause>
 
 /// Whether there is a place for a quote.
 fn judge_place(t: &Tables, offering: &Offering) -> Result<(), Cause>
-    requires { Sound t.now }
     ensures { result ≡ unless (place_causes (bare_day t.now) offering.now) tt }
 {
-    if !is_quotable(t, offering.user, offering.request) {
+    if !t.is_quotable(offering.user, offering.request) {
         return Err(Cause::RequestNotOpen);
     }
     if is_old_not_live(t, offering) {
@@ -156,36 +148,20 @@ fn judge_place(t: &Tables, offering: &Offering) -> Result<(), Cause>
 
 /// Whether a quote is taken.
 pub fn judge_offering(t: &Tables, offering: &Offering) -> Result<(), Cause>
-    requires { Sound t.now }
     ensures { result ≡ judge (bare_day t.now) (offer offering.now) }
 {
     judge_form(offering)?;
     judge_terms(t, offering)?;
     judge_place(t, offering)?;
-    judge_legs(&request_at(t, offering.request), offering)
-}
-
-/// Whether the caller can be and was entered.
-pub fn judge_caller(t: &Tables, user: u8) -> Result<(), Cause>
-    requires { Sound t.now }
-    ensures { result ≡ unless (caller_causes (bare_day t.now) user) tt }
-{
-    if !is_user(user) {
-        return Err(Cause::OutOfRange);
-    }
-    if is_unknown_user(t, user) {
-        return Err(Cause::UnknownUser);
-    }
-    Ok(())
+    judge_legs(&t.request(offering.request), offering)
 }
 
 /// Whether a quote can be pulled.
 pub fn judge_pull(t: &Tables, user: u8, quote: u16) -> Result<(), Cause>
-    requires { Sound t.now }
     ensures { result ≡ judge (bare_day t.now) (pull user quote) }
 {
-    judge_caller(t, user)?;
-    if !holds(t, user, quote) {
+    t.judge_caller(user)?;
+    if !t.holds(user, quote) {
         return Err(Cause::QuoteNotLive);
     }
     Ok(())
@@ -193,19 +169,13 @@ pub fn judge_pull(t: &Tables, user: u8, quote: u16) -> Result<(), Cause>
 
 /// Whether a request can be cancelled.
 pub fn judge_cancel(t: &Tables, user: u8, request: u16) -> Result<(), Cause>
-    requires { Sound t.now }
     ensures { result ≡ judge (bare_day t.now) (cancel user request) }
 {
-    judge_caller(t, user)?;
-    if !owns(t, user, request) {
-        return Err(Cause::RequestNotOpen);
-    }
-    Ok(())
+    t.judge_owner(user, request)
 }
 
 /// Whether a posting is taken.
 pub fn judge_posting(t: &Tables, posting: &Posting) -> Result<(), Cause>
-    requires { Sound t.now }
     ensures { result ≡ judge (bare_day t.now) (post posting.now) }
 {
     if is_posting_halved(posting) {
@@ -235,12 +205,13 @@ pub fn judge_time(t: &Tables, time: u32) -> Result<(), Cause>
 
 /// Whether a price can be asked for.
 pub fn judge_question(t: &Tables, question: &PriceQuestion) -> Result<(), Cause>
-    requires { Sound t.now }
     ensures { result ≡ judge (bare_day t.now) (ask_price question.now) }
 {
-    match (question.letter, question.leg) {
-        ('B' | 'O' | 'M', 'B' | 'S') => {}
-        _ => return Err(Cause::WrongLetter),
+    if !matches!(
+        (question.letter, question.leg),
+        ('B' | 'O' | 'M', 'B' | 'S')
+    ) {
+        return Err(Cause::WrongLetter);
     }
     if !is_name(&question.name) {
         return Err(Cause::OutOfRange);

@@ -1,5 +1,11 @@
-use Rattle.std.proofs.Common.{◌≡◌, ◌++◌, map, take, drop}
+use Rattle.std.proofs.Common.{◌≡◌, take, drop}
+use Rattle.std.specs.List.{AllZip}
+use Rattle.edits.specs.Sweeps.{Leaves}
 use Rattle.edits.proofs.sweeps.sweep.Given as goal
 
-abbrev pub invariant-loop-i : goal.invariant-loop-i
-invariant-loop-i g l = l.rows ≡ map (g.C.Change.changed l.by) (take l.i l.initial.rows) ++ drop l.i l.initial.rows
+-- the rows before the index are changed, the others as they were
+abbrev pub invariant-loop-row : goal.invariant-loop-row
+invariant-loop-row g l = record {
+  changed : AllZip (Leaves g.F.Fn l.change) (take l.row-index l.initial.row-items) (take l.row-index l.row-items);
+  others : drop l.row-index l.row-items ≡ drop l.row-index l.initial.row-items;
+}

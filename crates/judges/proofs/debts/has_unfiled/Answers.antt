@@ -1,21 +1,11 @@
-use Rattle.std.proofs.Common.{arith}
-use Rattle.std.proofs.lemmas.List.{at_drop_more, at_drop_all}
-use Rattle.std.proofs.lemmas.Bool.Decides.{nat_tests}
-use Rattle.venue.specs.Calls.{unfiled}
-use Rattle.venue.specs.Days.{no_trade}
+use Rattle.std.proofs.Common.{not, ◌∙◌, rules, tests}
+use Rattle.std.proofs.lemmas.Iterator.{YieldsList-from_slice}
+use Rattle.std.proofs.lemmas.Iterator.Search.{any_from_yields_List}
+use Rattle.venue.specs.declared.rows.Trade.{Trade}
+use Rattle.judges.proofs.Strangers.{any_unfiled}
 use Rattle.judges.proofs.debts.has_unfiled.Goals as goal
-
-pub returns-then-not-trade : goal.returns-then-not-trade
-returns-then-not-trade c =
-    let step = at_drop_more unfiled c.args.trades.now c.loop-trade.trade-index no_trade c.loop-trade-test.true in
-    grind (arith, nat_tests)
-
-pub loop-trade-preserved : goal.loop-trade-preserved
-loop-trade-preserved c =
-    let step = at_drop_more unfiled c.args.trades.now c.loop-trade.trade-index no_trade c.loop-trade-test.true in
-    grind (arith, nat_tests)
 
 pub returns : goal.returns
 returns c =
-    let step = at_drop_all unfiled c.args.trades.now c.loop-trade.trade-index c.loop-trade-test.false in
-    grind (arith, nat_tests)
+    any_from_yields_List (λ (t : Trade). not t.filed) _ _ _ c.any.ensures.ran (YieldsList-from_slice c.args.trades.now cc) (λ x b q k. search (rules, tests))
+    ∙ any_unfiled c.args.trades.now

@@ -1,20 +1,19 @@
-use Rattle.std.proofs.Common.{◌||◌, sym, ap, ◌∙◌}
-use Rattle.std.proofs.lemmas.Bool.{eq-eqb, ne_eqb, or_left, or_right}
+use Rattle.std.proofs.Common.{◌≡◌, eqb, ◌||◌, sym, ap, ◌∙◌}
+use Rattle.std.proofs.lemmas.Bool.{eq-eqb, ne_eqb, or_left}
 use Rattle.venue.specs.Days.{bit}
 use Rattle.venue.specs.Calls.{has_stranger}
 use Rattle.tables.specs.Tabled.{bare_day}
+use Rattle.judges.proofs.Strangers.{neither}
+use Rattle.judges.proofs.facts.are_recipients_wrong.Goals.{then-recipients-eq0, else-recipients-eq0}
 use Rattle.judges.proofs.facts.are_recipients_wrong.Goals as goal
 
-pub returns-then-entry-eq0 : goal.returns-then-entry-eq0
-returns-then-entry-eq0 c = sym (or_left _ _ (eq-eqb _ _ c.if-entry-eq0.true))
-
-pub returns-then-has_stranger : goal.returns-then-has_stranger
-returns-then-has_stranger c = sym (or_right _ _ (or_left _ _ (sym c.has_stranger.ensures ∙ c.if-has_stranger.true)))
-
-pub returns : goal.returns
-returns c =
+pub returns-else-has_stranger : goal.returns-else-has_stranger
+returns-else-has_stranger c =
     let e = c.args.entry.now in
-    let d = bare_day c.args.t.now in
-    c.has_bit.ensures
-    ∙ sym (ap (λ b. b || (has_stranger d e.recipients 64 || bit e.recipients e.user)) (ne_eqb _ _ c.if-entry-eq0.false)
-    ∙ ap (λ b. b || bit e.recipients e.user) (sym c.has_stranger.ensures ∙ c.if-has_stranger.false))
+    let strange = has_stranger (bare_day c.args.t.now) e.recipients 64 in
+    let tested : c.if-recipients-eq0.value ≡ (eqb e.recipients 0 || strange) =
+    elim c.if-recipients-eq0.branch [
+      | then-recipients-eq0 w ↦ let none = eq-eqb _ _ w.if-recipients-eq0.true in w.value-is ∙ none ∙ sym (or_left _ strange none)
+      | else-recipients-eq0 w ↦ w.value-is ∙ w.has_stranger.ensures ∙ ap (λ b. b || strange) (sym (ne_eqb _ _ w.if-recipients-eq0.false))
+    ] in
+    c.has_bit.ensures ∙ sym (neither (eqb e.recipients 0) strange (bit e.recipients e.user) (sym tested ∙ c.if-has_stranger.false))

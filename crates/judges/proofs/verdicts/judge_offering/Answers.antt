@@ -39,7 +39,7 @@ pub returns : goal.returns
 returns c =
     let d = bare_day c.args.t.now in
     let o = c.args.offering.now in
-    let legs = c.judge_legs.ensures ∙ ap (λ r. verdict (shown_causes r o)) c.request_at.ensures in
+    let legs = c.judge_legs.ensures ∙ ap (λ r. verdict (shown_causes r o)) c.request.ensures in
     legs
     ∙ sym (unless_next (form_causes (offer o)) (offer_causes d o) c.in_ok-judge_form.ensures
     ∙ unless_next (term_causes d o) (place_causes d o ++ shown_causes (request_of d o.request) o) c.in_ok-judge_terms.ensures
