@@ -1,5 +1,4 @@
 pub mod Judging
 pub mod Naming
-pub mod Numbering
 pub mod Settling
 pub mod Turning

@@ -1,53 +1,53 @@
--- The turn of one quote, and the turns of a whole line. Assumes nothing.
-use Rattle.std.proofs.Common.{◌≡◌, ℕ, ◌+◌, ◌-◌, ◌<◌, ◌≤◌, min, Bool, true, false, List, [], ◌∷◌, ◌++◌, length, get_or, take, drop, fold, sym, ap, ◌∙◌}
-use Rattle.std.proofs.lemmas.List.{take_all}
-use Rattle.std.proofs.lemmas.List.Sums.{fold_more}
-use Rattle.std.proofs.lemmas.Bool.{cond-true, cond-false}
-use Rattle.venue.specs.declared.rows.Side.TheVariants.{Buy}
+-- The turns of a line, and where they stand among the quantities. Assumes nothing.
+use Rattle.std.proofs.Common.{◌≡◌, ℕ, zero, suc, ◌<◌, ◌≤◌, List, [], ◌++◌, length, get_or, take, drop, fold, sym, ap, ◌∙◌, ⊎_elim, append_assoc, arith}
+use Rattle.std.proofs.lemmas.List.{set_past, get_or-set_same, get_or_past, take_all}
+use Rattle.std.proofs.lemmas.Bool.{cases_lt}
+use Rattle.std.proofs.Math.Seq.{take-append_seam, drop-append_seam}
+use Rattle.venue.specs.Days.{numbered}
+use Rattle.venue.specs.Trading.{Filled, fills, renumbered, turn}
 use Rattle.venue.specs.declared.rows.Candidate.{Candidate}
-use Rattle.venue.specs.declared.rows.Request.{Request}
-use Rattle.venue.specs.declared.rows.Quote.{Quote}
 use Rattle.venue.specs.declared.rows.Trade.{Trade}
-use Rattle.venue.specs.Days.{Day, numbered, request_of, quote_of}
-use Rattle.venue.specs.Trading.{Filled, renumbered, meets, filled_by, trade_of_fill, turn, fills}
-use Rattle.deals.specs.declared.rows.Terms.{Terms}
-use Rattle.deals.specs.Filling.{day_with}
+use Rattle.deals.specs.declared.terms.Terms.{Terms}
+use Rattle.deals.specs.Filling.{filled_on, live_day, so_far, terms_day}
 
-module _ (d : Day) (n : ℕ) (f : Filled) (c : Candidate) (fill : ℕ) (is : fill ≡ min f.open_left (numbered 0 f.remains c.quote)) where
-  abbrev met : Bool
-  met = meets fill (request_of d n).minimum (quote_of d c.quote).minimum
+-- what stands at a number after less was put there: nothing where there is nothing
+pub numbered_put : (xs : List ℕ) (n k : ℕ) → k ≤ numbered 0 xs n → numbered 0 (renumbered xs n k) n ≡ k
+numbered_put xs zero k h = omega arith
+numbered_put xs (suc n) k h =
+    ⊎_elim
+    (λ (l : n < length xs). get_or-set_same xs n k 0 l)
+    (λ (l : length xs ≤ n).
+    let past = get_or_past xs n 0 l in
+    let none : get_or xs n 0 ≡ k = omega arith in
+    ap (λ ys. get_or ys n 0) (set_past xs n k l) ∙ none)
+    (cases_lt n (length xs))
 
-  pub turn_passed : met ≡ false → f ≡ turn d n f c
-  turn_passed e = sym (ap (filled_by d n f c) (sym is) ∙ cond-false met _ f e)
+-- the quantities in use, among those that are not
+module _ {X : Type 0} (opens front remains back : List X) where
+  abbrev pub whole : List X
+  whole = (opens ++ front) ++ (remains ++ back)
 
-  pub turn_filled : (left : ℕ) (remains : List ℕ) (trades : List Trade) → met ≡ true → left ≡ f.open_left - fill → remains ≡ renumbered f.remains c.quote (numbered 0 f.remains c.quote - fill) → trades ≡ f.trades ++ trade_of_fill d n c fill ∷ [] → record { open_left = left; remains = remains; trades = trades } ≡ turn d n f c
-  turn_filled left remains trades e o r t =
-      ap (λ x. record { open_left = x; remains = remains; trades = trades }) o
-      ∙ ap (λ x. record { open_left = f.open_left - fill; remains = x; trades = trades }) r
-      ∙ ap (λ x. record { open_left = f.open_left - fill; remains = renumbered f.remains c.quote (numbered 0 f.remains c.quote - fill); trades = x }) t
-      ∙ sym (ap (filled_by d n f c) (sym is) ∙ cond-true met _ f e)
+  pub opens_of : (k : ℕ) → length opens ≡ k → take k whole ≡ opens
+  opens_of k e =
+      ap (λ n. take n whole) (sym e)
+      ∙ ap (take (length opens)) (append_assoc opens front (remains ++ back))
+      ∙ take-append_seam opens (front ++ (remains ++ back))
 
-abbrev pub nobody : Candidate
-nobody = record { side = Buy; price = 0; rank = 0; remaining = 0; quote = 0 }
+  pub remains_of : (m k : ℕ) → length (opens ++ front) ≡ m → length remains ≡ k → take k (drop m whole) ≡ remains
+  remains_of m k e l =
+      ap (λ n. take k (drop n whole)) (sym e)
+      ∙ ap (take k) (drop-append_seam (opens ++ front) (remains ++ back))
+      ∙ ap (λ n. take n (remains ++ back)) (sym l)
+      ∙ take-append_seam remains back
 
--- the turns of a line
-module _ (k : Terms) (requests : List Request) (quotes : List Quote) (quantities : List ℕ) where
-  abbrev pub start : Filled
-  start =
-      record {
-        open_left = numbered 0 (take k.requests quantities) k.request;
-        remains = take k.quotes (drop 128 quantities);
-        trades = [];
-      }
+pub filled_parts : (k : Terms) (opens front remains back : List ℕ) (left : ℕ) (made : List Trade) → length opens ≡ length k.requests.now → length (opens ++ front) ≡ 128 → length remains ≡ length k.quotes.now → numbered 0 opens k.call.now.request ≡ left → filled_on (live_day k (whole opens front remains back)) k.call.now.request made ≡ so_far left remains made
+filled_parts k opens front remains back left made o m r is =
+    let all = whole opens front remains back in
+    ap (λ l. so_far (numbered 0 l k.call.now.request) (take (length k.quotes.now) (drop 128 all)) made) (opens_of opens front remains back _ o)
+    ∙ ap (λ l. so_far (numbered 0 opens k.call.now.request) l made) (remains_of opens front remains back 128 _ m r)
+    ∙ ap (λ m. so_far m remains made) is
 
-  abbrev pub turns : List Candidate → Filled
-  turns line = fold (turn (day_with k requests quotes []) k.request) start line
-
-  pub turns_more : (line : List Candidate) (i : ℕ) (f f' : Filled) → i < length line → f ≡ turns (take i line) → f' ≡ turn (day_with k requests quotes []) k.request f (get_or line i nobody) → f' ≡ turns (take (i + 1) line)
-  turns_more line i f f' h e step =
-      step
-      ∙ ap (λ u. turn (day_with k requests quotes []) k.request u (get_or line i nobody)) e
-      ∙ sym (fold_more (turn (day_with k requests quotes []) k.request) start line i nobody h)
-
-  pub turns_all : (line : List Candidate) (i : ℕ) (f : Filled) → length line ≤ i → f ≡ turns (take i line) → f ≡ fills (day_with k requests quotes quantities) k.request line
-  turns_all line i f h e = e ∙ ap turns (take_all i line h)
+-- the turns of the whole line are its fills
+pub turns_all : (k : Terms) (quantities : List ℕ) (line : List Candidate) (i : ℕ) (f : Filled) → length line ≤ i → f ≡ fold (turn (terms_day k) k.call.now.request) (filled_on (live_day k quantities) k.call.now.request []) (take i line) → f ≡ fills (live_day k quantities) k.call.now.request line
+turns_all k quantities line i f h e =
+    e ∙ ap (fold (turn (terms_day k) k.call.now.request) (filled_on (live_day k quantities) k.call.now.request [])) (take_all i line h)

@@ -1,6 +1,6 @@
 -- What an acceptance answers, and what it leaves of the tables.
 -- Assumes nothing.
-use Rattle.std.specs.Prelude.{◌≡◌, ◌+◌, ◌-◌, Bool, List, [], length, Some, Ok, Err, Result}
+use Rattle.std.specs.Prelude.{◌≡◌, ◌+◌, ◌-◌, List, [], length, Some, Ok, Err, Result}
 use Rattle.records.specs.declared.causes.Cause.{Cause}
 use Rattle.records.specs.declared.causes.Refusal.{Refusal}
 use Rattle.records.specs.Causes.{refusal}
@@ -10,24 +10,11 @@ use Rattle.venue.specs.declared.rows.Acceptance.{Acceptance}
 use Rattle.venue.specs.declared.rows.Report.{Report}
 use Rattle.venue.specs.Days.{Day}
 use Rattle.venue.specs.Trading.{Filled}
-use Rattle.venue.specs.Calls.{Call.accept, floor_of}
+use Rattle.venue.specs.Calls.{Call.accept}
 use Rattle.venue.specs.Model.{Reply, settled, judge, answer, next}
 use Rattle.tables.specs.declared.inner.Tables.{Tables}
-use Rattle.tables.specs.Tabled.{Sound, bare_day, day_of}
-use Rattle.deals.specs.declared.rows.Terms.{Terms}
+use Rattle.tables.specs.Tabled.{bare_day, day_of}
 use Rattle.deals.specs.Filling.{verdict}
-
--- what the fills of an acceptance go by
-abbrev pub terms_of : Tables → Acceptance → Bool → Terms
-terms_of t a double =
-    record {
-      request = a.request;
-      requests = t.request_count;
-      quotes = t.quote_count;
-      trades = t.trade_count;
-      double = double;
-      floor = floor_of a.floor;
-    }
 
 -- the trades to be reported
 abbrev pub report_of : Day → Filled → Report
@@ -56,4 +43,3 @@ pub record Deals (d : Day) (a : Acceptance) (t t' : Tables) (r : Result Report C
   pub answers : told r ≡ answer d (accept a)
   pub next_day : day_of t' d.rows d.screen ≡ next d (accept a)
   pub kept : Kept t t' r
-  pub sound : Sound t'

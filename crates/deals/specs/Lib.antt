@@ -1,3 +1,2 @@
 pub mod Dealing
 pub mod Filling
-pub mod Named

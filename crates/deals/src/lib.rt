@@ -5,5 +5,5 @@ pub mod accept;
 mod fill;
 mod line;
 mod numbers;
-mod rows;
 mod settle;
+mod terms;

@@ -1,20 +1,24 @@
 // Rows that are written at their number.
-ghost use Rattle.std.specs.Prelude.{◌≡◌, ℕ, ◌+◌, ◌≤◌, length, take, drop};
+ghost use Rattle.std.specs.Prelude.{◌≡◌, ◌-◌};
+ghost use Rattle.venue.specs.Days.{numbered as row_numbered};
 ghost use Rattle.venue.specs.Trading.{renumbered};
 
-/// Puts a row at a number, counted from 1, among the `count` rows that begin at a place. At any other number there is
-/// nothing to replace.
-pub fn renumber<R: Copy>(rows: &mut [R], from: usize, count: usize, n: u16, row: R)
-    requires { from + count ≤ length rows.old }
-    ensures own { take count (drop from rows.new) ≡ renumbered (take count (drop from rows.old)) n row }
-    ensures front { (k : ℕ) → k ≤ from → take k rows.new ≡ take k rows.old }
-    ensures back { (k : ℕ) → from + count ≤ k → drop k rows.new ≡ drop k rows.old }
+use tables::look::numbered;
+
+// By index: once a row that `get_mut` lends is given back, nothing is known of the others.
+/// Puts a row at a number, counted from 1. At any other number there is nothing to replace.
+pub fn renumber<R: Copy>(rows: &mut [R], n: u16, row: R)
+    ensures { rows.new ≡ renumbered rows.old n row }
 {
-    if n == 0 {
-        return;
+    if (1..=rows.len()).contains(&usize::from(n)) {
+        rows[usize::from(n) - 1] = row;
     }
-    if n as usize > count {
-        return;
-    }
-    rows[from + (n as usize - 1)] = row;
+}
+
+/// Takes a fill from the quantity with a number.
+pub fn lower(quantities: &mut [u32], n: u16, fill: u32)
+    ensures { quantities.new ≡ renumbered quantities.old n (row_numbered 0 quantities.old n - fill) }
+{
+    let left = numbered(quantities, n, 0).saturating_sub(fill);
+    renumber(quantities, n, left);
 }

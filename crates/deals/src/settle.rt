@@ -1,5 +1,6 @@
 // What an acceptance that is kept leaves of requests, quotes and trades.
-ghost use Rattle.std.specs.Prelude.{◌≡◌, ◌+◌, ◌≤◌, ◌&&◌, ◌||◌, List, ◌++◌, length, take, if◌then◌else◌, ◌==◌};
+ghost use Rattle.std.specs.Prelude.{◌≡◌, ◌+◌, ◌≤◌, ◌&&◌, ◌||◌, List, length, if◌then◌else◌, ◌==◌};
+ghost use Rattle.arrayvec.specs.ArrayVec.{array_vec_len};
 ghost use Rattle.prices.specs.declared.rows.Row.{Row};
 ghost use Rattle.prices.specs.Rows.{Screen};
 ghost use Rattle.venue.specs.declared.rows.Life.TheVariants.{Accepted};
@@ -7,16 +8,15 @@ ghost use Rattle.venue.specs.Days.{no_request, numbered as row_numbered};
 ghost use Rattle.venue.specs.Trading.{renumbered};
 ghost use Rattle.venue.specs.Calls.{rest_of};
 ghost use Rattle.venue.specs.Model.{ended_as, ended_if, settled, settled_quotes};
-ghost use Rattle.tables.specs.Tabled.{Sound, day_of};
-ghost use Rattle.deals.specs.Filling.{Fitting, filled_in};
+ghost use Rattle.tables.specs.Tabled.{bare_day, day_of};
+ghost use Rattle.deals.specs.Filling.{filled_on};
 
-use super::numbers::renumber;
-use super::rows::Made;
+use arrayvec::ArrayVec;
 use tables::inner::{REQUESTS, Tables};
-use tables::look::{NO_REQUEST, numbered, open_at};
-use tables::trading::is_open;
+use tables::rows::{end_quote, end_request, numbered_mut};
 use venue::rows::{Acceptance, Life, Quote, Report, Request, Trade};
 
+// The letter of the call, which was judged before: nothing but this question asks it.
 /// Whether the request ends: the rest is cancelled, or nothing is open.
 fn is_over(rest: Option<char>, left: u32) -> bool
     ensures { result ≡ (rest_of rest == 67 || left == 0) }
@@ -24,80 +24,53 @@ fn is_over(rest: Option<char>, left: u32) -> bool
     rest.unwrap_or('C') == 'C' || left == 0
 }
 
-/// The request as one that an acceptance ended.
-fn accepted(row: Request) -> Request
-    ensures { result ≡ ended_as Accepted row }
-{
-    let life = if is_open(row.life) {
-        Life::Accepted
-    } else {
-        row.life
-    };
-    Request { life, ..row }
-}
-
+// Which request, and whether it is over, go through three small functions: a struct of the two would say no more.
 /// Ends request n, if it is over.
-fn end_request(requests: &mut [Request], count: usize, n: u16, over: bool)
-    requires { count ≤ length requests.old }
-    ensures { take count requests.new ≡ (if over then renumbered (take count requests.old) n (ended_as Accepted (row_numbered no_request (take count requests.old) n)) else take count requests.old) }
+fn end_if_over(requests: &mut ArrayVec<Request, REQUESTS>, n: u16, over: bool)
+    ensures { requests.new.items ≡ (if over then renumbered requests.old.items n (ended_as Accepted (row_numbered no_request requests.old.items n)) else requests.old.items) }
 {
-    if over {
-        let row = numbered(requests, count, n, NO_REQUEST);
-        renumber(requests, 0, count, n, accepted(row));
+    if over && let Some(request) = numbered_mut(requests, n) {
+        end_request(request, Life::Accepted);
     }
 }
 
-/// A quote after the acceptance: those of the request end that have nothing remaining, or all where the request is over.
-fn quote_after(row: Quote, remaining: u32, n: u16, over: bool) -> Quote
-    ensures { result ≡ ended_if (row.request == n && (over || remaining == 0)) row }
+/// Ends a quote of request n that has nothing remaining, and any of its quotes where the request is over.
+fn settle_quote(quote: &mut Quote, remaining: u32, n: u16, over: bool)
+    ensures { quote.new ≡ ended_if (quote.old.request == n && (over || remaining == 0)) quote.old }
 {
-    if row.request == n && (over || remaining == 0) {
-        Quote { live: false, ..row }
-    } else {
-        row
+    if quote.request == n && (over || remaining == 0) {
+        end_quote(quote);
     }
 }
 
-/// Ends the quotes that end with the acceptance, among the first `count`.
-fn end_quotes(quotes: &mut [Quote], count: usize, remains: &[u32], n: u16, over: bool)
-    requires { (count ≤ length quotes.old) × (count ≤ length remains.now) }
-    ensures { take count quotes.new ≡ settled_quotes n over (take count quotes.old) (take count remains.now) }
+/// Ends the quotes that end with the acceptance.
+fn end_quotes(quotes: &mut [Quote], remains: &[u32], n: u16, over: bool)
+    requires { length remains.now ≡ length quotes.old }
+    ensures { quotes.new ≡ settled_quotes n over quotes.old remains.now }
 {
-    for i in 0..count {
-        quotes[i] = quote_after(quotes[i], remains[i], n, over);
-    }
-}
-
-/// Writes the trades behind the first `count`.
-fn append(trades: &mut [Trade], count: usize, made: &Made)
-    requires { (count + made.now.len ≤ length trades.old) × (Fitting made.now) }
-    ensures { take (count + made.now.len) trades.new ≡ take count trades.old ++ take made.now.len made.now.trades }
-{
-    for i in 0..made.len {
-        trades[count + i] = made.trades[i];
+    // By place: of rows that `iter_mut` lends under `zip`, a proof does not know what they become.
+    for (i, quote) in quotes.iter_mut().enumerate() {
+        settle_quote(quote, remains[i], n, over);
     }
 }
 
 /// Settles an acceptance whose fills are kept, and says which trades are to be reported.
-pub fn settle(t: &mut Tables, call: &Acceptance, made: &Made) -> Report
-    requires { (Sound t.old) × ((t.old.trade_count + made.now.len ≤ 512) × (Fitting made.now)) }
-    ensures day { (rows : List Row) (screen : Screen) → day_of t.new rows screen ≡ settled (day_of t.old rows screen) call.now (filled_in t.old.request_count t.old.quote_count call.now.request t.old.quantities made.now) }
-    ensures sound { Sound t.new }
-    ensures report { result ≡ record { day = t.old.number; first = t.old.trade_count + 1; last = t.old.trade_count + made.now.len } }
+pub fn settle(t: &mut Tables, call: &Acceptance, made: &[Trade]) -> Report
+    requires { array_vec_len t.old.trades + length made.now ≤ 512 }
+    ensures day { (rows : List Row) (screen : Screen) → day_of t.new rows screen ≡ settled (day_of t.old rows screen) call.now (filled_on (bare_day t.old) call.now.request made.now) }
+    ensures report { result ≡ record { day = t.old.number; first = array_vec_len t.old.trades + 1; last = array_vec_len t.old.trades + length made.now } }
 {
     let n = call.request;
-    let over = is_over(call.rest, open_at(t, n));
-    let requests = t.request_count;
-    end_request(&mut t.requests, requests, n, over);
-    let quotes = t.quote_count;
+    let over = is_over(call.rest, t.open(n));
+    end_if_over(&mut t.requests, n, over);
     let (_, remains) = t.quantities.split_at(REQUESTS);
-    end_quotes(&mut t.quotes, quotes, remains, n, over);
-    let count = t.trade_count;
-    append(&mut t.trades, count, made);
-    t.trade_count = count + made.len;
+    let remains = &remains[..t.quotes.len()];
+    end_quotes(t.quotes.as_mut_slice(), remains, n, over);
+    let before = t.trades.len();
+    t.trades.try_extend_from_slice(made).unwrap();
     Report {
         day: t.number,
-        first: (count + 1) as u16,
-        last: (count + made.len) as u16,
+        first: (before + 1) as u16,
+        last: (before + made.len()) as u16,
     }
 }
