@@ -5,7 +5,7 @@ use Rattle.records.specs.declared.causes.Refusal.{Refusal}
 use Rattle.prices.specs.declared.rows.Row.{Row}
 use Rattle.prices.specs.Rows.{Screen}
 use Rattle.prices.specs.declared.sources.Source.{Ghosts}
-use Rattle.tables.specs.Tabled.{day_of}
+use Rattle.tables.specs.Priced.{market_day}
 use Rattle.venue.specs.Days.{Day}
 use Rattle.venue.specs.Calls.{Call}
 use Rattle.venue.specs.Model.{Reply, a_number, answer, next, shut}
@@ -17,10 +17,10 @@ use Rattle.day.specs.declared.forms.Debt.{Debt}
 -- the day that a form stands for, given what its source means
 module _ {S : Type 0} {g : Ghosts S} (rows : S → List Row) (screen : S → Screen) where
   abbrev pub trading_day : Trading S g → Day
-  trading_day t = day_of t.tables (rows t.source) (screen t.source)
+  trading_day t = market_day rows screen t.market
 
   abbrev pub closed_day : Closed S g → Day
-  closed_day c = shut (day_of c.tables (rows c.source) (screen c.source))
+  closed_day c = shut (market_day rows screen c.market)
 
   -- the day after a close: closed, or handed back
   abbrev pub day_closing : Result (Closed S g) (Refused S g) → Day
@@ -57,7 +57,7 @@ DebtBack debt (Err p) = p.1 ≡ debt
 
 abbrev pub DayBack : {S : Type 0} {g : Ghosts S} → Trading S g → Result (Closed S g) (Refused S g) → Type 0
 DayBack t (Ok _) = Unit {0}
-DayBack t (Err f) = (f.day.tables ≡ t.tables) × (f.day.source ≡ t.source)
+DayBack t (Err f) = f.day.market ≡ t.market
 
 -- the call turns the day d into d' and is answered so, as the model has it
 pub record Steps (d : Day) (c : Call) (d' : Day) (a : Result Reply Refusal) : Type 0 where

@@ -15,14 +15,13 @@ impl<S: Source> Trading<S> {
         ensures step { Steps (trading_day S.rows S.screen self.old) (file debt.report) (trading_day S.rows S.screen self.new) (told_filing result) }
         ensures back { DebtBack debt result }
     {
-        match judge_filing(&self.tables, &debt.report) {
-            Ok(()) => {
-                let Debt { report } = debt;
-                file_trades(&mut self.tables, &report);
-                Ok(())
-            }
-            Err(cause) => Err((Refusal { cause, place: 0 }, debt)),
+        // By hand: a closure of `map_err` would take the debt, which only a refusal gives back.
+        if let Err(cause) = judge_filing(&self.market.tables, &debt.report) {
+            return Err((cause.into(), debt));
         }
+        let Debt { report } = debt;
+        file_trades(&mut self.market.tables, &report);
+        Ok(())
     }
 
     /// Closes the day: all requests and quotes end. While a trade is unfiled, the day is handed back as it was.
@@ -30,16 +29,14 @@ impl<S: Source> Trading<S> {
         ensures step { Steps (trading_day S.rows S.screen self) close (day_closing S.rows S.screen result) (told_closing result) }
         ensures back { DayBack self result }
     {
-        match judge_close(&self.tables) {
-            Ok(()) => {
-                let Trading { mut tables, source } = self;
-                end_all(&mut tables);
-                Ok(Closed { tables, source })
-            }
-            Err(cause) => Err(Refused {
-                refusal: Refusal { cause, place: 0 },
+        if let Err(cause) = judge_close(&self.market.tables) {
+            return Err(Refused {
+                refusal: cause.into(),
                 day: self,
-            }),
+            });
         }
+        let Trading { mut market } = self;
+        end_all(&mut market.tables);
+        Ok(Closed { market })
     }
 }

@@ -14,7 +14,7 @@ impl<S: Source> Trading<S> {
     pub fn accept(&mut self, acceptance: Acceptance) -> Result<(u16, Debt), Refusal>
         ensures { Steps (trading_day S.rows S.screen self.old) (accepts acceptance) (trading_day S.rows S.screen self.new) (told_deal result) }
     {
-        let report = accept(&mut self.tables, &self.source, &acceptance)?;
+        let report = accept(&mut self.market, &acceptance)?;
         let count = report.last + 1 - report.first;
         Ok((count, Debt { report }))
     }

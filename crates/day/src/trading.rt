@@ -14,20 +14,19 @@ use prices::rows::{Leg, Pair};
 use prices::sources::Source;
 use records::causes::Refusal;
 use records::parts::Price;
-use tables::names::place_named;
-use tables::trading::price_at_clock;
 use venue::rows::{Entry, Offering, Posting, PriceQuestion};
 
 /// The pair of a posting that has both prices.
 fn pair_posted(posting: &Posting) -> Option<Pair>
     ensures { result ≡ pair_of posting.now.bid posting.now.offer }
 {
-    match (posting.bid, posting.offer) {
-        (Some(bid), Some(offer)) => Some(Pair { bid, offer }),
-        _ => None,
-    }
+    posting
+        .bid
+        .zip(posting.offer)
+        .map(|(bid, offer)| Pair { bid, offer })
 }
 
+// The letter was judged before: a `TryFrom` would have to refuse what cannot come.
 /// The leg that a letter asks for.
 fn leg_asked(letter: char) -> Leg
     ensures { result ≡ leg_of_letter letter }
@@ -38,14 +37,15 @@ fn leg_asked(letter: char) -> Leg
     }
 }
 
+// Each call names its own judge and its own change: a function over both would hide which belongs to which.
 impl<S: Source> Trading<S> {
     /// Enters a request, and gives its number.
     pub fn enter(&mut self, entry: Entry) -> Result<u16, Refusal>
         ensures { Steps (trading_day S.rows S.screen self.old) (enter entry) (trading_day S.rows S.screen self.new) (told_number result) }
     {
-        judge_entry(&self.tables, &entry)?;
-        let number = self.tables.request_count + 1;
-        add_request(&mut self.tables, &entry);
+        judge_entry(&self.market.tables, &entry)?;
+        let number = self.market.tables.requests.len() + 1;
+        add_request(&mut self.market.tables, &entry);
         Ok(number as u16)
     }
 
@@ -53,9 +53,9 @@ impl<S: Source> Trading<S> {
     pub fn quote(&mut self, offering: Offering) -> Result<u16, Refusal>
         ensures { Steps (trading_day S.rows S.screen self.old) (offer offering) (trading_day S.rows S.screen self.new) (told_number result) }
     {
-        judge_offering(&self.tables, &offering)?;
-        let number = self.tables.quote_count + 1;
-        add_quote(&mut self.tables, &offering);
+        judge_offering(&self.market.tables, &offering)?;
+        let number = self.market.tables.quotes.len() + 1;
+        add_quote(&mut self.market.tables, &offering);
         Ok(number as u16)
     }
 
@@ -63,8 +63,8 @@ impl<S: Source> Trading<S> {
     pub fn pull(&mut self, user: u8, quote: u16) -> Result<(), Refusal>
         ensures { Steps (trading_day S.rows S.screen self.old) (pull user quote) (trading_day S.rows S.screen self.new) (told_done result) }
     {
-        judge_pull(&self.tables, user, quote)?;
-        pull_quote(&mut self.tables, quote);
+        judge_pull(&self.market.tables, user, quote)?;
+        pull_quote(&mut self.market.tables, quote);
         Ok(())
     }
 
@@ -72,8 +72,8 @@ impl<S: Source> Trading<S> {
     pub fn cancel(&mut self, user: u8, request: u16) -> Result<(), Refusal>
         ensures { Steps (trading_day S.rows S.screen self.old) (cancel user request) (trading_day S.rows S.screen self.new) (told_done result) }
     {
-        judge_cancel(&self.tables, user, request)?;
-        cancel_request(&mut self.tables, request);
+        judge_cancel(&self.market.tables, user, request)?;
+        cancel_request(&mut self.market.tables, request);
         Ok(())
     }
 
@@ -81,8 +81,8 @@ impl<S: Source> Trading<S> {
     pub fn move_clock(&mut self, time: u32) -> Result<(), Refusal>
         ensures { Steps (trading_day S.rows S.screen self.old) (move_clock time) (trading_day S.rows S.screen self.new) (told_done result) }
     {
-        judge_time(&self.tables, time)?;
-        move_clock(&mut self.tables, time);
+        judge_time(&self.market.tables, time)?;
+        move_clock(&mut self.market.tables, time);
         Ok(())
     }
 
@@ -90,28 +90,24 @@ impl<S: Source> Trading<S> {
     pub fn post(&mut self, posting: Posting) -> Result<(), Refusal>
         ensures { Steps (trading_day S.rows S.screen self.old) (post posting) (trading_day S.rows S.screen self.new) (told_done result) }
     {
-        judge_posting(&self.tables, &posting)?;
-        let place = place_named(&self.tables, &posting.name).unwrap_or(0);
-        let clock = self.tables.clock;
-        self.source.post(place, pair_posted(&posting), clock)
+        judge_posting(&self.market.tables, &posting)?;
+        // As in the day: a name that is no symbol's was refused before.
+        let place = self.market.tables.place_of(&posting.name).unwrap_or(0);
+        let clock = self.market.tables.clock;
+        self.market.source.post(place, pair_posted(&posting), clock)
     }
 
     /// What a price of a symbol comes to now.
     pub fn ask_price(&self, question: PriceQuestion) -> Result<u32, Refusal>
         ensures { Steps (trading_day S.rows S.screen self.now) (ask_price question) (trading_day S.rows S.screen self.now) (told_number result) }
     {
-        judge_question(&self.tables, &question)?;
-        let place = place_named(&self.tables, &question.name).unwrap_or(0);
+        judge_question(&self.market.tables, &question)?;
+        // As in the day: a name that is no symbol's was refused before.
+        let place = self.market.tables.place_of(&question.name).unwrap_or(0);
         let price = Price {
             letter: question.letter,
             number: 0,
         };
-        price_at_clock(
-            &self.tables,
-            &self.source,
-            place,
-            leg_asked(question.leg),
-            price,
-        )
+        self.market.price(place, leg_asked(question.leg), price)
     }
 }

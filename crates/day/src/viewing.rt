@@ -4,8 +4,7 @@ ghost use Rattle.day.specs.Told.{Shows, trading_day};
 ghost use Rattle.venue.specs.Calls.{Call.book as books, Call.view as views};
 
 use super::forms::Trading;
-use pages::book::book;
-use pages::view::view;
+use pages::asking::Pages;
 use prices::sources::Source;
 use records::causes::Refusal;
 
@@ -14,7 +13,10 @@ impl<S: Source> Trading<S> {
     pub fn view(&self, user: u8, out: &mut [u8]) -> Result<usize, Refusal>
         ensures { Shows (trading_day S.rows S.screen self.now) (views user (length out.old)) out.old out.new result }
     {
-        Ok(view(&self.tables, &self.source, user, out)?)
+        let pages = Pages {
+            market: &self.market,
+        };
+        Ok(pages.view(user, out)?)
     }
 
     /// Writes a request of the caller's with all its fields, and its executable quotes in their order, and says how long
@@ -22,6 +24,9 @@ impl<S: Source> Trading<S> {
     pub fn book(&self, user: u8, request: u16, out: &mut [u8]) -> Result<usize, Refusal>
         ensures { Shows (trading_day S.rows S.screen self.now) (books user request (length out.old)) out.old out.new result }
     {
-        Ok(book(&self.tables, &self.source, user, request, out)?)
+        let pages = Pages {
+            market: &self.market,
+        };
+        Ok(pages.book(user, request, out)?)
     }
 }

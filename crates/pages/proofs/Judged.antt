@@ -1,5 +1,5 @@
 -- Causes judged in two steps: those of the caller, and the room. Assumes nothing.
-use Rattle.std.proofs.Common.{◌≡◌, ℕ, Bool, true, false, cond, ltb, List, [], ◌∷◌, ◌++◌, length, Ok, Err, Result, sym, refl, ap, ◌∙◌, arith}
+use Rattle.std.proofs.Common.{◌≡◌, ℕ, Bool, true, false, cond, ltb, List, [], ◌∷◌, ◌++◌, length, Ok, Err, Result, sym, refl, ap, ◌∙◌}
 use Rattle.records.specs.declared.causes.Cause.{Cause}
 use Rattle.records.specs.declared.causes.Cause.TheVariants.{BufferShort}
 use Rattle.records.specs.Causes.{unless}
@@ -11,11 +11,11 @@ first_then [] ds x h = refl
 first_then {X} (c ∷ cs) ds x h = by_test c.1 h (first_then cs ds x)
   where
     by_test : (b : Bool) → cond b (Err c.0) (unless {X = Unit {0}} cs tt) ≡ Ok tt → (unless {X = Unit {0}} cs tt ≡ Ok tt → unless (cs ++ ds) x ≡ unless ds x) → cond b (Err c.0) (unless (cs ++ ds) x) ≡ unless ds x
-    by_test true k ih = let z : ◌≡◌ {A = ℕ} 0 1 = cc in absurd (omega arith)
+    by_test true k ih = cc
     by_test false k ih = ih k
 
 pub first_stops : {X : Type 0} (cs ds : List (Cause × Bool)) (x : X) (e : Cause) → unless {X = Unit {0}} cs tt ≡ Err e → unless (cs ++ ds) x ≡ Err e
-first_stops [] ds x e h = let z : ◌≡◌ {A = ℕ} 0 1 = cc in absurd (omega arith)
+first_stops [] ds x e h = cc
 first_stops {X} (c ∷ cs) ds x e h = by_test c.1 h (first_stops cs ds x e)
   where
     by_test : (b : Bool) → cond b (Err c.0) (unless {X = Unit {0}} cs tt) ≡ Err e → (unless {X = Unit {0}} cs tt ≡ Err e → unless (cs ++ ds) x ≡ Err e) → cond b (Err c.0) (unless (cs ++ ds) x) ≡ Err e

@@ -1,12 +1,8 @@
 -- Bytes put into a buffer one part after another, and the page that stands there then. Assumes nothing.
-use Rattle.std.proofs.Common.{◌≡◌, ℕ, ◌+◌, ◌<◌, ◌≤◌, false, ◌||◌, ltb, List, ◌++◌, length, take, drop, Ok, Err, sym, refl, ap, ◌∙◌, arith}
+use Rattle.std.proofs.Common.{◌≡◌, ℕ, ◌+◌, ◌≤◌, List, ◌++◌, length, take, drop, Ok, sym, ap, ◌∙◌, arith}
 use Rattle.std.proofs.lemmas.List.{length-append, take_at}
-use Rattle.std.proofs.lemmas.Bool.{cond-true, cond-false, lt-ltb, le-ltb}
-use Rattle.records.specs.declared.causes.Cause.TheVariants.{BufferShort}
-use Rattle.records.specs.declared.parts.Record.{Record}
-use Rattle.records.specs.Layout.{kind_of}
-use Rattle.records.specs.Reading.{no_kind}
-use Rattle.records.specs.Writing.{encode, no_laying, over}
+use Rattle.std.proofs.lemmas.Bool.{cond-false, le-ltb}
+use Rattle.records.specs.Writing.{over}
 use Rattle.records.proofs.Over.{over_append, over_start}
 use Rattle.pages.specs.Paged.{Written, fitted}
 
@@ -24,9 +20,6 @@ put_then out xs ys mid now p q before step here =
     let long = length-append xs ys in
     record { bytes = cc; place = omega arith }
 
-pub too_long : (page out : List ℕ) → length out < length page → Written (fitted page (length out)) page out out (Err BufferShort)
-too_long page out h = record { answers = sym (cond-true _ _ _ (lt-ltb _ _ h)); buffer = refl; front = tt }
-
 pub stands : (page out now : List ℕ) (n : ℕ) → now ≡ over out 0 page → n ≡ length page → length page ≤ length out → Written (fitted page (length out)) page out now (Ok n)
 stands page out now n put size h =
     let whole : now ≡ page ++ drop n out = put ∙ over_start out page h ∙ ap (λ (k : ℕ). page ++ drop k out) (sym size) in
@@ -36,7 +29,3 @@ stands page out now n put size h =
       buffer = whole;
       front = (omega arith, ap (take n) whole ∙ take_at page (drop n out) n (sym size));
     }
-
--- a record of a known kind is laid where there is room
-pub lays : (k : ℕ) (r : Record) (room at : ℕ) → no_kind (kind_of k) ≡ false → at + length (encode k r) ≤ room → no_laying k r room at ≡ false
-lays k r room at known h = ap (λ b. b || ltb room (at + length (encode k r))) known ∙ le-ltb room (at + length (encode k r)) h

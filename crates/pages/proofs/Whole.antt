@@ -1,50 +1,67 @@
--- The sections of a page are the page. Assumes nothing.
-use Rattle.std.proofs.Common.{◌≡◌, ℕ, ◌+◌, ◌-◌, Bool, ◌||◌, eqb, List, ◌++◌, map, length, take, filter, sym, ap, ◌∙◌, append-nil, arith}
-use Rattle.std.specs.List.{flat_map}
-use Rattle.std.proofs.lemmas.List.{length-take-le}
-use Rattle.prices.specs.declared.rows.Row.{Row}
-use Rattle.prices.specs.Rows.{Screen}
+-- The rows of a page give the page, and where their lines name symbols, there are symbols. Assumes nothing.
+use Rattle.std.proofs.Common.{◌≡◌, ℕ, zero, suc, ◌<◌, Bool, true, List, [], ◌∷◌, ◌++◌, map, length, fold, filter, refl, ap, ◌∙◌, arith}
+use Rattle.std.specs.List.{All, flat_map}
+use Rattle.std.specs.Cmp.{first_so}
+use Rattle.std.proofs.lemmas.Grind.{flat_map-append}
+use Rattle.std.proofs.lemmas.List.Elements.{All-append, All-cons, All-map}
+use Rattle.std.proofs.lemmas.List.Folds.{flat_map-map}
+use Rattle.ranked.specs.Ranks.{ranked}
 use Rattle.tables.specs.declared.inner.Tables.{Tables}
-use Rattle.tables.specs.Tabled.{Sound, bare_day, day_of}
+use Rattle.tables.specs.Tabled.{bare_day}
 use Rattle.venue.specs.declared.rows.Candidate.{Candidate}
-use Rattle.venue.specs.Days.{Day, holds, trade_of}
-use Rattle.venue.specs.Pages.{executable_line, numbers, own_quotes, own_trades, quote_line, seen_requests, shown_line, trade_line, view_page, whole_line}
-use Rattle.pages.specs.declared.rows.Listed.{Listed}
-use Rattle.pages.specs.Listing.{listed, listed_page, no_candidate, no_listed, ranked_page}
-use Rattle.pages.specs.Sections.{and_then, if_shown, lines_of, row_line}
-use Rattle.pages.proofs.Gathering.{joined_listed}
-use Rattle.pages.proofs.Numbered.{lines_rows, lines_shown, lines_then}
+use Rattle.venue.specs.declared.rows.Request.{Request}
+use Rattle.venue.specs.Days.{Day, is_open, no_request, numbered, owns}
+use Rattle.venue.specs.Pages.{book_page, executables, numbers, own_quotes, own_trades, quote_line, request_before, seen_requests, shown_line, view_page, whole_line}
+use Rattle.venue.specs.Places.{Placed}
+use Rattle.venue.specs.Trading.{in_order}
+use Rattle.pages.specs.declared.rows.Row.TheVariants.{Shown, Quote, Trade, Whole, Executable}
+use Rattle.pages.specs.Rows.{Named, book_rows, line_of, lines_of, view_rows}
+use Rattle.pages.specs.Seats.{Seated}
 
-module _ (t : Tables) (sound : Sound t) where
-  pub view_lines : (rows : List Row) (screen : Screen) (u : ℕ) (seen : List Listed) → lines_of (and_then (row_line (λ x. shown_line (bare_day t) x.number) no_listed seen) (length seen) (and_then (λ n. if_shown (holds (bare_day t) u n) (quote_line (day_of t rows screen) n)) t.quote_count (λ n. if_shown (eqb (trade_of (bare_day t) n).buyer u || eqb (trade_of (bare_day t) n).seller u) (trade_line (bare_day t) u n)))) (length seen + (t.quote_count + t.trade_count)) ≡ listed_page (day_of t rows screen) u seen
-  view_lines rows screen u seen =
-      let d = day_of t rows screen in
-      let own : ℕ → Bool = λ n. holds d u n in
-      let side : ℕ → Bool = λ n. eqb (trade_of d n).buyer u || eqb (trade_of d n).seller u in
-      let quotes : ℕ → List ℕ = λ n. if_shown (own n) (quote_line d n) in
-      let trades : ℕ → List ℕ = λ n. if_shown (side n) (trade_line d u n) in
-      let q : length d.quotes ≡ t.quote_count = length-take-le t.quote_count t.quotes (omega arith) in
-      let k : length d.trades ≡ t.trade_count = length-take-le t.trade_count t.trades (omega arith) in
-      let first = lines_rows (λ (x : Listed). shown_line d x.number) no_listed seen in
-      let second = lines_shown (quote_line d) own t.quote_count ∙ ap (λ n. flat_map (quote_line d) (filter own (numbers n))) (sym q) in
-      let third = lines_shown (trade_line d u) side t.trade_count ∙ ap (λ n. flat_map (trade_line d u) (filter side (numbers n))) (sym k) in
-      lines_then (row_line (λ x. shown_line d x.number) no_listed seen) (length seen) (and_then quotes t.quote_count trades) (t.quote_count + t.trade_count)
-      ∙ ap (λ l. lines_of (row_line (λ x. shown_line d x.number) no_listed seen) (length seen) ++ l) (lines_then quotes t.quote_count trades t.trade_count)
-      ∙ ap (λ l. l ++ (lines_of quotes t.quote_count ++ lines_of trades t.trade_count)) first
-      ∙ ap (λ l. flat_map (λ x. shown_line d x.number) seen ++ (l ++ lines_of trades t.trade_count)) second
-      ∙ ap (λ l. flat_map (λ x. shown_line d x.number) seen ++ (flat_map (quote_line d) (filter own (numbers (length d.quotes))) ++ l)) third
+module _ (d : Day) (u : ℕ) where
+  pub view_lines : lines_of d u (view_rows d u) ≡ view_page d u
+  view_lines =
+      flat_map-append (line_of d u) (map Shown (seen_requests d u)) (map Quote (own_quotes d u) ++ map Trade (own_trades d u))
+      ∙ ap (λ l. l ++ lines_of d u (map Quote (own_quotes d u) ++ map Trade (own_trades d u))) (flat_map-map (line_of d u) Shown (seen_requests d u))
+      ∙ ap (λ l. flat_map (shown_line d) (seen_requests d u) ++ l) (flat_map-append (line_of d u) (map Quote (own_quotes d u)) (map Trade (own_trades d u)))
+      ∙ ap (λ l. flat_map (shown_line d) (seen_requests d u) ++ (l ++ lines_of d u (map Trade (own_trades d u)))) (flat_map-map (line_of d u) Quote (own_quotes d u))
+      ∙ ap (λ l. flat_map (shown_line d) (seen_requests d u) ++ (flat_map (quote_line d) (own_quotes d u) ++ l)) (flat_map-map (line_of d u) Trade (own_trades d u))
 
-  pub book_lines : (n : ℕ) (line : List Candidate) → lines_of (and_then (λ _. whole_line (bare_day t) n) 1 (row_line executable_line no_candidate line)) (1 + length line) ≡ ranked_page (bare_day t) n line
-  book_lines n line =
-      lines_then (λ _. whole_line (bare_day t) n) 1 (row_line executable_line no_candidate line) (length line)
-      ∙ ap (λ l. l ++ lines_of (row_line executable_line no_candidate line) (length line)) (append-nil (whole_line (bare_day t) n))
-      ∙ ap (λ l. whole_line (bare_day t) n ++ l) (lines_rows executable_line no_candidate line)
+  pub book_lines : (n : ℕ) → lines_of d u (book_rows d n) ≡ book_page d n
+  book_lines n = ap (λ l. whole_line d n ++ l) (flat_map-map (line_of d u) Executable (in_order d n (executables d n)))
 
--- listed requests give the view
-pub view_of : (d : Day) (u : ℕ) (seen : List Listed) → seen ≡ map (listed d) (seen_requests d u) → listed_page d u seen ≡ view_page d u
-view_of d u seen e =
-    ap (listed_page d u) e ∙ ap (λ l. l ++ (flat_map (quote_line d) (own_quotes d u) ++ flat_map (trade_line d u) (own_trades d u))) (joined_listed d (shown_line d) (seen_requests d u))
+-- among no numbers none passes
+some_among : (into : List ℕ → List ℕ) (p : ℕ → Bool) (n k : ℕ) → into [] ≡ [] → k < length (into (filter p (numbers n))) → 0 < n
+some_among into p zero k none h = let nothing = ap length none in absurd (omega arith)
+some_among into p (suc n) k none h = omega arith
 
--- the front of a list, as a slice of it
-pub front_of : {X : Type 0} (n : ℕ) (xs : List X) → take (n - 0) xs ≡ take n xs
-front_of n xs = let same : n - 0 ≡ n = omega arith in ap (λ k. take k xs) same
+some_then : (m n : ℕ) → (n ≡ 0 → m ≡ 0) → 0 < m → 0 < n
+some_then m zero none h = let nothing = none refl in absurd (omega arith)
+some_then m (suc n) none h = omega arith
+
+open_among : (rows : List Request) (n : ℕ) → is_open (numbered no_request rows n).life ≡ true → 0 < length rows
+open_among [] zero h = cc
+open_among [] (suc n) h = cc
+open_among (row ∷ rows) n h = omega arith
+
+module _ (t : Tables) (placed : Placed (bare_day t)) where
+  by_request : 0 < length t.requests.items → Seated t
+  by_request some = let first = placed.0 0 some in (placed, omega arith)
+
+  by_trade : 0 < length t.trades.items → Seated t
+  by_trade some = (placed, some_then (length t.trades.items) (length t.symbols.items) placed.1 some)
+
+  pub named_view : (u : ℕ) → All (Named t) (view_rows (bare_day t) u)
+  named_view u =
+      let d = bare_day t in
+      let into : List ℕ → List ℕ = λ ns. fold (λ line n. ranked (request_before d) n line) [] ns in
+      All-append (Named t) (map Shown (seen_requests d u)) (map Quote (own_quotes d u) ++ map Trade (own_trades d u))
+      (All-map (Named t) Shown (seen_requests d u) (λ k _ h _. by_request (some_among into _ _ k refl h)))
+      (All-append (Named t) (map Quote (own_quotes d u)) (map Trade (own_trades d u))
+      (All-map (Named t) Quote (own_quotes d u) (λ _ _ _ h. cc))
+      (All-map (Named t) Trade (own_trades d u) (λ k _ h _. by_trade (some_among (λ ns. ns) _ _ k refl h))))
+
+  pub named_book : (u n : ℕ) (line : List Candidate) → owns (bare_day t) u n ≡ true → All (Named t) (Whole n ∷ map Executable line)
+  named_book u n line own =
+      All-cons (Named t) (Whole n) (map Executable line) (λ _. by_request (open_among t.requests.items n (first_so _ _ own)))
+      (All-map (Named t) Executable line (λ _ _ _ h. cc))

@@ -1,10 +1,10 @@
-// What a view and a book question write into a lent buffer. Their functions ask that the tables are sound.
+// What a view and a book question write into a lent buffer.
 #![tactic(auto)]
 
-pub mod book;
-mod judging;
+pub mod asking;
+mod book;
 mod lines;
 mod listing;
+mod page;
 mod rows;
-mod sections;
-pub mod view;
+mod view;

@@ -1,6 +1,7 @@
 // The lines of a page as records: each field with what the tables and the prices say.
-ghost use Rattle.std.specs.Prelude.{◌≡◌, length, if◌then◌else◌, ◌==◌};
-ghost use Rattle.tables.specs.Tabled.{Sound, bare_day, day_of};
+ghost use Rattle.std.specs.Prelude.{◌≡◌, length, if◌then◌else◌};
+ghost use Rattle.tables.specs.Tabled.{bare_day};
+ghost use Rattle.tables.specs.Priced.{market_day};
 ghost use Rattle.venue.specs.Trading.{is_late as is_late_trade};
 ghost use Rattle.venue.specs.Pages.{executable_line, leg_now, name_of, quote_line, request_line, side_letter, trade_line};
 ghost use Rattle.records.specs.Writing.{encode};
@@ -9,11 +10,35 @@ ghost use Rattle.pages.specs.Seats.{Seated};
 use prices::rows::Leg;
 use prices::sources::Source;
 use records::parts::Record;
-use tables::inner::Tables;
-use tables::look::{open_at, quote_at, remaining_at, request_at, symbol_at, trade_at, user_at};
-use tables::trading::{leg_of, price_had};
+use tables::inner::{Market, Tables};
+use tables::market::leg_of;
 use venue::rows::{Candidate, Side, Trade};
 
+/// The fields that every line of a request has: its number, its name and its expiry. From the next bit on stand those that
+/// the request may show.
+pub(crate) const REQUEST_FIELDS: u16 = 0b111;
+
+pub(crate) const FIRST_SHOWN: u16 = 0b1000;
+
+/// All the fields of a request.
+pub(crate) const WHOLE_REQUEST: u16 = 0b1111_1111;
+
+/// The fields that every line of a quote has, and the prices of its legs.
+const QUOTE_FIELDS: u16 = 0b110_0111;
+
+const SELLS: u16 = 0b1000;
+
+const BUYS: u16 = 0b1_0000;
+
+/// The fields that every line of a trade has, and the letters of a late one.
+const TRADE_FIELDS: u16 = 0b1_1111;
+
+const FLAG: u16 = 0b10_0000;
+
+/// The fields of an executable quote.
+const EXECUTABLE_FIELDS: u16 = 0b111;
+
+// No `From`: a side is `venue`'s, and its letter is asked for here alone.
 /// B or S.
 fn letter_of(side: Side) -> char
     ensures { result ≡ side_letter side }
@@ -24,69 +49,95 @@ fn letter_of(side: Side) -> char
     }
 }
 
-/// The name of the symbol of request n.
-pub(crate) fn name_at(t: &Tables, n: u16) -> [u8; 8]
-    requires sound { Sound t.now }
-    requires seated { Seated t.now }
-    ensures value { result ≡ name_of (bare_day t.now) n }
-    ensures eight { length result ≡ 8 }
-{
-    let name = symbol_at(t, request_at(t, n).place).name;
-    // As a slice, the name is known to have eight bytes.
-    let _bytes: &[u8] = &name;
-    name
-}
-
-/// Request n, with the fields of the bit map.
-pub(crate) fn request_record(t: &Tables, map: u16, n: u16) -> Record
-    requires sound { Sound t.now }
-    requires seated { Seated t.now }
-    ensures { encode 114 result ≡ request_line (bare_day t.now) map n }
-{
-    let row = request_at(t, n);
-    Record {
-        request: n,
-        name: name_at(t, n),
-        expiry: row.expiry,
-        side: letter_of(row.side),
-        open: open_at(t, n),
-        limit: row.limit,
-        minimum: row.minimum,
-        requestor: row.requestor,
-        ..Record::blank(map)
-    }
-}
-
-/// The price now of a leg of quote q.
-fn leg_price<S: Source>(t: &Tables, source: &S, leg: Leg, q: u16) -> Option<u32>
-    requires { Sound t.now }
-    ensures { result ≡ leg_now (day_of t.now (S.rows source.now) (S.screen source.now)) leg q }
-{
-    let row = quote_at(t, q);
-    let place = request_at(t, row.request).place;
-    price_had(t, source, place, leg, leg_of(leg, row))
-}
-
-/// A bit of the map, if it is to stand.
+/// A bit of a map, if it is to stand.
 fn bit_if(stands: bool, bit: u16) -> u16
     ensures { result ≡ (if stands then bit else 0) }
 {
     if stands { bit } else { 0 }
 }
 
-/// Quote q, with the price of each leg that can be had now.
-pub(crate) fn quote_record<S: Source>(t: &Tables, source: &S, q: u16) -> Record
-    requires { Sound t.now }
-    ensures { encode 113 result ≡ quote_line (day_of t.now (S.rows source.now) (S.screen source.now)) q }
+/// Whether a trade is late: its value is large, and one of its users may be late.
+fn is_late(t: &Tables, trade: Trade) -> bool
+    ensures { result ≡ is_late_trade (bare_day t.now) trade }
 {
-    let row = quote_at(t, q);
-    let sells = leg_price(t, source, Leg::Selling, q);
-    let buys = leg_price(t, source, Leg::Buying, q);
-    let map = 103 + bit_if(sells.is_some(), 8) + bit_if(buys.is_some(), 16);
+    let large = t.symbol(t.request(trade.request).place).large;
+    let value = u64::from(trade.quantity) * u64::from(trade.price);
+    large <= value && (t.user(trade.buyer).late || t.user(trade.seller).late)
+}
+
+/// Tables with a symbol for every request, so that lines can name it.
+#[derive(Drop)]
+pub(crate) struct Seats<'a> {
+    pub t: &'a Tables,
+    ghost seated: { Seated t.now },
+}
+
+impl<'a> Seats<'a> {
+    /// The name of the symbol of request n.
+    pub fn name(&self, n: u16) -> [u8; 8]
+        ensures value { result ≡ name_of (bare_day self.now.t.now) n }
+        ensures eight { length result ≡ 8 }
+    {
+        self.t.symbol(self.t.request(n).place).name
+    }
+
+    /// Request n, with the fields of the bit map.
+    pub fn request_record(&self, map: u16, n: u16) -> Record
+        ensures { encode 114 result ≡ request_line (bare_day self.now.t.now) map n }
+    {
+        let row = self.t.request(n);
+        Record {
+            request: n,
+            name: self.name(n),
+            expiry: row.expiry,
+            side: letter_of(row.side),
+            open: self.t.open(n),
+            limit: row.limit,
+            minimum: row.minimum,
+            requestor: row.requestor,
+            ..Record::blank(map)
+        }
+    }
+
+    /// Trade n, with the user's own side, and LRGS where it is late.
+    pub fn trade_record(&self, user: u8, n: u16) -> Record
+        ensures { encode 116 result ≡ trade_line (bare_day self.now.t.now) user n }
+    {
+        let trade = self.t.trade(n);
+        let map = TRADE_FIELDS + bit_if(is_late(self.t, trade), FLAG);
+        Record {
+            trade: n,
+            name: self.name(trade.request),
+            side: if trade.buyer == user { 'B' } else { 'S' },
+            quantity: trade.quantity,
+            price: trade.price,
+            flag: *b"LRGS",
+            ..Record::blank(map)
+        }
+    }
+}
+
+/// The price now of a leg of quote q.
+fn leg_price<S: Source>(market: &Market<S>, leg: Leg, q: u16) -> Option<u32>
+    ensures { result ≡ leg_now (market_day S.rows S.screen market.now) leg q }
+{
+    let row = market.tables.quote(q);
+    let place = market.tables.request(row.request).place;
+    market.price_had(place, leg, leg_of(leg, row))
+}
+
+/// Quote q, with the price of each leg that can be had now.
+pub(crate) fn quote_record<S: Source>(market: &Market<S>, q: u16) -> Record
+    ensures { encode 113 result ≡ quote_line (market_day S.rows S.screen market.now) q }
+{
+    let row = market.tables.quote(q);
+    let sells = leg_price(market, Leg::Selling, q);
+    let buys = leg_price(market, Leg::Buying, q);
+    let map = QUOTE_FIELDS + bit_if(sells.is_some(), SELLS) + bit_if(buys.is_some(), BUYS);
     Record {
         quote: q,
         request: row.request,
-        remaining: remaining_at(t, q),
+        remaining: market.tables.remaining(q),
         sells: sells.unwrap_or(0),
         buys: buys.unwrap_or(0),
         minimum: row.minimum,
@@ -95,50 +146,14 @@ pub(crate) fn quote_record<S: Source>(t: &Tables, source: &S, q: u16) -> Record
     }
 }
 
-/// Whether a trade is late: its value is large, and one of its users may be late.
-fn is_late(t: &Tables, trade: Trade) -> bool
-    requires { Sound t.now }
-    ensures { result ≡ is_late_trade (bare_day t.now) trade }
-{
-    let large = symbol_at(t, request_at(t, trade.request).place).large;
-    let value = u64::from(trade.quantity) * u64::from(trade.price);
-    large <= value && (user_at(t, trade.buyer).late || user_at(t, trade.seller).late)
-}
-
-/// The user's own side of a trade.
-fn own_side(trade: Trade, user: u8) -> char
-    ensures { result ≡ (if trade.buyer == user then 66 else 83) }
-{
-    if trade.buyer == user { 'B' } else { 'S' }
-}
-
-/// Trade n, with the user's own side, and LRGS where it is late.
-pub(crate) fn trade_record(t: &Tables, user: u8, n: u16) -> Record
-    requires sound { Sound t.now }
-    requires seated { Seated t.now }
-    ensures { encode 116 result ≡ trade_line (bare_day t.now) user n }
-{
-    let trade = trade_at(t, n);
-    let map = 31 + bit_if(is_late(t, trade), 32);
-    Record {
-        trade: n,
-        name: name_at(t, trade.request),
-        side: own_side(trade, user),
-        quantity: trade.quantity,
-        price: trade.price,
-        flag: *b"LRGS",
-        ..Record::blank(map)
-    }
-}
-
 /// An executable quote.
-pub(crate) fn executable_record(row: &Candidate) -> Record
-    ensures { encode 101 result ≡ executable_line row.now }
+pub(crate) fn executable_record(candidate: &Candidate) -> Record
+    ensures { encode 101 result ≡ executable_line candidate.now }
 {
     Record {
-        quote: row.quote,
-        remaining: row.remaining,
-        price: row.price,
-        ..Record::blank(7)
+        quote: candidate.quote,
+        remaining: candidate.remaining,
+        price: candidate.price,
+        ..Record::blank(EXECUTABLE_FIELDS)
     }
 }

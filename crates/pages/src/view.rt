@@ -1,159 +1,73 @@
 // A view: the open requests sent to the user, its live quotes, and its trades.
-ghost use Rattle.std.specs.Prelude.{◌<◌, ◌≤◌, ◌||◌, length, ◌==◌};
-ghost use Rattle.tables.specs.Tabled.{Sound, bare_day, day_of};
+ghost use Rattle.std.specs.Prelude.{◌≡◌, ◌+◌, ◌≤◌, ◌++◌, map, length};
+ghost use Rattle.tables.specs.declared.inner.TheConstants.{QUOTES, REQUESTS};
+ghost use Rattle.tables.specs.Tabled.{bare_day};
+ghost use Rattle.tables.specs.Priced.{market_day};
+ghost use Rattle.arrayvec.specs.ArrayVec.{array_vec_len};
 ghost use Rattle.venue.specs.Calls.{view as view_call};
-ghost use Rattle.venue.specs.Days.{holds, trade_of};
-ghost use Rattle.venue.specs.Pages.{quote_line, shown_line, trade_line, view_page};
-ghost use Rattle.pages.specs.Listing.{listed_page, no_listed};
-ghost use Rattle.pages.specs.Paged.{Fitted, Paged};
-ghost use Rattle.pages.specs.Seats.{Seated};
-ghost use Rattle.pages.specs.Sections.{if_shown, row_line};
-ghost use Rattle.venue.specs.Places.{Placed};
+ghost use Rattle.venue.specs.Pages.{own_quotes, own_trades, view_page};
+ghost use Rattle.pages.specs.Paged.{Paged};
+ghost use Rattle.pages.specs.Rows.{view_rows as rows_of_view};
 
-use super::judging::judge_caller;
-use super::lines::{quote_record, request_record, trade_record};
-use super::listing::list_seen;
-use super::rows::{Line, Listed};
-use super::sections::{Section, Then, put_page};
+use super::asking::Pages;
+use super::rows::{Page, Row, Rows};
 use prices::sources::Source;
 use records::causes::Cause;
 use tables::inner::Tables;
-use tables::look::{quote_at, request_at, trade_at};
 
-/// What stands in a list behind its last row.
-const NO_LISTED: Listed = Listed {
-    name: [0; 8],
-    number: 0,
-};
-
-/// The requests of a list, each with what is shown of it.
-#[derive(Drop)]
-struct Requests<'a> {
-    t: &'a Tables,
-    rows: &'a [Listed],
-}
-
-impl<'a> Section for Requests<'a> {
-    ghost sound = { λ s. Sound s.t.now × (length s.rows.now ≤ 128) × (0 < length s.rows.now → Seated s.t.now) };
-
-    ghost size = { λ s. length s.rows.now };
-
-    ghost bytes = { λ s. row_line (λ x. shown_line (bare_day s.t.now) x.number) no_listed s.rows.now };
-
-    fn count(&self) -> u16 {
-        self.rows.len() as u16
-    }
-
-    fn line(&self, n: u16) -> Option<Line> {
-        let number = self.rows[n as usize - 1].number;
-        let shown = request_at(self.t, number).shown;
-        let map = 7 + 8 * u16::from(shown);
-        Some(Line {
-            kind: 'r',
-            fields: request_record(self.t, map, number),
-        })
-    }
-}
-
-/// The live quotes of a user.
-#[derive(Drop)]
-struct Quotes<'a, S> {
-    t: &'a Tables,
-    source: &'a S,
-    user: u8,
-}
-
-impl<'a, S: Source> Section for Quotes<'a, S> {
-    ghost sound = { λ s. Sound s.t.now };
-
-    ghost size = { λ s. s.t.now.quote_count };
-
-    ghost bytes = { λ s n. if_shown (holds (bare_day s.t.now) s.user n) (quote_line (day_of s.t.now (S.Source.rows s.source.now) (S.Source.screen s.source.now)) n) };
-
-    fn count(&self) -> u16 {
-        self.t.quote_count as u16
-    }
-
-    fn line(&self, n: u16) -> Option<Line> {
-        let row = quote_at(self.t, n);
-        if row.live && row.user == self.user {
-            Some(Line {
-                kind: 'q',
-                fields: quote_record(self.t, self.source, n),
-            })
-        } else {
-            None
+// By number, as rows name them. Quotes and trades differ in table, test and row, so one function would only pass closures on.
+/// Adds a row for each live quote of a user.
+fn add_quotes(t: &Tables, user: u8, rows: &mut Rows)
+    requires { array_vec_len rows.old ≤ REQUESTS }
+    ensures few { array_vec_len rows.new ≤ REQUESTS + QUOTES }
+    ensures rows { rows.new.items ≡ rows.old.items ++ map Row.Quote (own_quotes (bare_day t.now) user) }
+{
+    for n in 1..=t.quotes.len() as u16 {
+        if t.holds(user, n) {
+            rows.push(Row::Quote(n));
         }
     }
 }
 
-/// The trades of a user.
-#[derive(Drop)]
-struct Trades<'a> {
-    t: &'a Tables,
-    user: u8,
-}
-
-impl<'a> Section for Trades<'a> {
-    ghost sound = { λ s. Sound s.t.now × (0 < s.t.now.trade_count → Seated s.t.now) };
-
-    ghost size = { λ s. s.t.now.trade_count };
-
-    ghost bytes = { λ s n. if_shown ((trade_of (bare_day s.t.now) n).buyer == s.user || (trade_of (bare_day s.t.now) n).seller == s.user) (trade_line (bare_day s.t.now) s.user n) };
-
-    fn count(&self) -> u16 {
-        self.t.trade_count as u16
-    }
-
-    fn line(&self, n: u16) -> Option<Line> {
-        let row = trade_at(self.t, n);
-        if row.buyer == self.user || row.seller == self.user {
-            Some(Line {
-                kind: 't',
-                fields: trade_record(self.t, self.user, n),
-            })
-        } else {
-            None
+/// Adds a row for each trade of a user, on either side.
+fn add_trades(t: &Tables, user: u8, rows: &mut Rows)
+    requires { array_vec_len rows.old ≤ REQUESTS + QUOTES }
+    ensures { rows.new.items ≡ rows.old.items ++ map Row.Trade (own_trades (bare_day t.now) user) }
+{
+    for n in 1..=t.trades.len() as u16 {
+        let trade = t.trade(n);
+        if trade.buyer == user || trade.seller == user {
+            rows.push(Row::Trade(n));
         }
     }
 }
 
-/// Writes the page of a user who sees the requests of a list.
-fn put_view<'a, S: Source>(
-    t: &'a Tables,
-    source: &'a S,
-    user: u8,
-    seen: &'a [Listed],
-    out: &mut [u8],
-) -> Result<usize, Cause>
-    requires sound { Sound t.now }
-    requires few { length seen.now ≤ 128 }
-    requires seen { 0 < length seen.now → Seated t.now }
-    requires traded { 0 < t.now.trade_count → Seated t.now }
-    ensures { Fitted (listed_page (day_of t.now (S.rows source.now) (S.screen source.now)) user seen.now) out.old out.new result }
-{
-    let requests = Requests { t, rows: seen };
-    let quotes = Quotes { t, source, user };
-    let trades = Trades { t, user };
-    let own = Then {
-        first: quotes,
-        second: trades,
-    };
-    let page = Then {
-        first: requests,
-        second: own,
-    };
-    put_page(&page, out)
-}
+impl<'a, S: Source> Pages<'a, S> {
+    /// The rows of a user's view.
+    fn view_rows(&self, user: u8) -> Rows
+        ensures { result.items ≡ rows_of_view (bare_day self.now.market.now.tables) user }
+    {
+        let t = &self.market.tables;
+        let mut rows = Rows::new();
+        for listed in self.list_seen(user).as_slice() {
+            rows.push(Row::Shown(listed.number));
+        }
+        add_quotes(t, user, &mut rows);
+        add_trades(t, user, &mut rows);
+        rows
+    }
 
-/// Writes the user's view of the day into the buffer, and says how long it is. A refusal leaves the buffer as it was.
-pub fn view<S: Source>(t: &Tables, source: &S, user: u8, out: &mut [u8]) -> Result<usize, Cause>
-    requires sound { Sound t.now }
-    requires placed { Placed (bare_day t.now) }
-    ensures { Paged (day_of t.now (S.rows source.now) (S.screen source.now)) (view_call user (length out.old)) (view_page (day_of t.now (S.rows source.now) (S.screen source.now)) user) out.old out.new result }
-{
-    judge_caller(t, user)?;
-    let mut list = [NO_LISTED; 128];
-    let count = list_seen(t, user, &mut list);
-    put_view(t, source, user, &list[0..count], out)
+    /// Writes the user's view of the day into the buffer, and says how long it is. A refusal leaves the buffer as it was.
+    pub fn view(&self, user: u8, out: &mut [u8]) -> Result<usize, Cause>
+        ensures { Paged (market_day S.rows S.screen self.now.market.now) (view_call user (length out.old)) (view_page (market_day S.rows S.screen self.now.market.now) user) out.old out.new result }
+    {
+        self.market.tables.judge_caller(user)?;
+        let rows = self.view_rows(user);
+        let page = Page {
+            market: self.market,
+            user,
+            rows: rows.as_slice(),
+        };
+        page.write(out)
+    }
 }

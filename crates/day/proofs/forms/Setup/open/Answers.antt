@@ -11,9 +11,9 @@ use Rattle.day.proofs.forms.Setup.open.Goals as goal
 
 pub returns : goal.returns
 returns g c =
-    let s = c.args.self.source in
+    let s = c.args.self.market.source in
     record {
-      opened = ap (over_source (g.S.Source.rows s) (g.S.Source.screen s)) c.open_tables.ensures.day;
+      opened = ap (over_source (g.S.Source.rows s) (g.S.Source.screen s)) c.open_tables.ensures;
       source = refl;
       hidden = hidden;
       strangers = strangers_told_nothing;
