@@ -73,6 +73,11 @@ users_from i (suc k) n = only (odd n) (codes " " ++ decimal i) ++ users_from (i 
 abbrev pub users_text : ℕ → List ℕ
 users_text n = codes "{" ++ (users_from 0 64 n ++ codes " }")
 
+-- the names whose bits stand, in bit order
+abbrev pub names_from : List (List ℕ) → ℕ → List ℕ
+names_from [] n = []
+names_from (w ∷ ws) n = only (odd n) (codes " " ++ w) ++ names_from ws (n / 2)
+
 -- the fields of a request that are shown
 abbrev pub shown_text : ℕ → List ℕ
 shown_text n =

@@ -8,10 +8,9 @@
 // Each line is echoed, and its outcome follows.
 #![tactic(auto)]
 
-use anyhow::anyhow;
+use anyhow::Context;
 use input::read_input;
 use listing::texts::list;
-use records::causes::Refusal;
 use records::parts::Record;
 use records::reading::{read, skip};
 use records::writing::write;
@@ -21,6 +20,7 @@ use std::str::SplitWhitespace;
 /// What every byte of a buffer holds before a record is written into it.
 const UNTOUCHED: u8 = 0xee;
 
+// Any letter: the vectors try those of no kind too.
 /// A command to write a record.
 #[derive(Drop)]
 struct Order {
@@ -63,24 +63,17 @@ fn show(rt: &HostRuntime, buffer: &[u8]) -> anyhow::Result<()> {
     Ok(())
 }
 
-fn show_refusal(rt: &HostRuntime, refusal: Refusal) -> anyhow::Result<()> {
-    let number = refusal.cause.number();
-    let layer = refusal.cause.layer();
-    let place = refusal.place;
-    print!(rt; "no {number} {layer} {place}")?;
-    Ok(())
-}
-
+// A match for each outcome: `ok` goes before what is given, and a refusal shows itself.
 fn run_at(rt: &HostRuntime, at: usize, bytes: &[u8]) -> anyhow::Result<()> {
     let mut fields = Record::blank(0);
     match read(bytes, at, &mut fields) {
         Ok((kind, next)) => print!(rt; "ok {kind} {next}")?,
-        Err(refusal) => show_refusal(rt, refusal)?,
+        Err(refusal) => print!(rt; "{refusal}")?,
     }
     print!(rt; ", ")?;
     match skip(bytes, at) {
         Ok(next) => print!(rt; "ok {next}")?,
-        Err(refusal) => show_refusal(rt, refusal)?,
+        Err(refusal) => print!(rt; "{refusal}")?,
     }
     println!(rt; "")?;
     Ok(())
@@ -93,7 +86,7 @@ fn run_write(rt: &HostRuntime, order: Order, bytes: &[u8]) -> anyhow::Result<()>
     let mut buffer = vec![in rt.alloc(); UNTOUCHED; order.size]?;
     match write(order.kind, &fields, &mut buffer, order.at) {
         Ok(next) => print!(rt; "ok {next}")?,
-        Err(refusal) => show_refusal(rt, refusal)?,
+        Err(refusal) => print!(rt; "{refusal}")?,
     }
     show(rt, &buffer)
 }
@@ -109,16 +102,12 @@ fn run_line(rt: &HostRuntime, line: &str) -> anyhow::Result<()> {
             Ok(())
         }
         Some("at") => {
-            let Some(at) = read_number(&mut words) else {
-                return Err(anyhow!("an at wants PLACE"));
-            };
+            let at = read_number(&mut words).context("an at wants PLACE")?;
             let bytes = bytes_of(rt, &mut words)?;
             run_at(rt, at, &bytes)
         }
         Some("write") => {
-            let Some(order) = read_order(&mut words) else {
-                return Err(anyhow!("a write wants KIND MAP SIZE AT"));
-            };
+            let order = read_order(&mut words).context("a write wants KIND MAP SIZE AT")?;
             let bytes = bytes_of(rt, &mut words)?;
             run_write(rt, order, &bytes)
         }
