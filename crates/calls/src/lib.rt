@@ -2,27 +2,20 @@
 #![tactic(auto)]
 
 ghost use Rattle.std.specs.Prelude.{◌≡◌, ◌<◌};
-ghost use Rattle.venue.specs.Days.{bit};
 ghost use Rattle.calls.specs.Made.{acceptance_of as acceptance_made, entry_of as entry_made, new_symbol_of as new_symbol_made, new_user_of as new_user_made, offering_of as offering_made, posting_of as posting_made, price_question_of as price_question_made, quotes_of as quotes_made, where_stands as if_standing};
 
 use records::parts::Record;
 use venue::rows::{Acceptance, Entry, NewSymbol, NewUser, Offering, Posting, PriceQuestion};
-
-/// Whether a bit of a map stands.
-fn stands(map: u16, i: u32) -> bool
-    requires { i < 16 }
-    ensures { result ≡ bit map i }
-{
-    (map >> i) % 2 == 1
-}
 
 /// A value, where its bit of a map stands.
 fn where_stands<T: Copy>(map: u16, i: u32, value: T) -> Option<T>
     requires { i < 16 }
     ensures { result ≡ if_standing map i value }
 {
-    if stands(map, i) { Some(value) } else { None }
+    ((map >> i) & 1 == 1).then_some(value)
 }
+
+// An impl of `From` belongs to the crate of one of its two types, and this is neither: so each conversion is a function.
 
 /// The user of a record U.
 pub fn new_user_of(fields: &Record) -> NewUser
@@ -83,6 +76,7 @@ pub fn offering_of(fields: &Record) -> Offering
 fn quotes_of(fields: &Record) -> [Option<u16>; 8]
     ensures { result ≡ quotes_made fields.now }
 {
+    // Each is a field of its own, with a bit of its own: a loop over them would begin with the same list.
     [
         where_stands(fields.map, 4, fields.quote),
         where_stands(fields.map, 5, fields.second),

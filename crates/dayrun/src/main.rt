@@ -5,13 +5,9 @@ use input::read_input;
 use std::io::Write;
 use transcript::texts::transcribe;
 
-fn run(rt: &HostRuntime) -> anyhow::Result<()> {
-    let bytes = read_input(rt)?;
+fn main(rt: HostRuntime) -> anyhow::Result<()> {
+    let bytes = read_input(&rt)?;
     let text = transcribe(rt.alloc(), &bytes)?;
     rt.stdout().write_all(&text)?;
     Ok(())
-}
-
-fn main(rt: HostRuntime) -> anyhow::Result<()> {
-    run(&rt)
 }

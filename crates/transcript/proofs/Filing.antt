@@ -1,5 +1,6 @@
 -- The debt of an acceptance can be filed directly after it. Assumes nothing.
 use Rattle.std.proofs.Common.{◌≡◌, ℕ, zero, suc, ◌+◌, ◌-◌, ◌<◌, ◌≤◌, Bool, true, false, cond, not, ◌&&◌, ◌||◌, eqb, ltb, List, [], ◌∷◌, ◌++◌, length, get_or, Some, Ok, Err, Option, Result, sym, refl, ap, ◌∙◌, arith}
+use Rattle.std.proofs.Math.Bool.{and-true}
 use Rattle.std.proofs.lemmas.Bool.Decides.{nat_tests}
 use Rattle.records.specs.declared.causes.Refusal.{Refusal}
 use Rattle.records.proofs.Unless.{granted, grants}
@@ -17,10 +18,6 @@ use Rattle.transcript.specs.Laws.{Files}
 neither : (a b : Bool) → a ≡ false → b ≡ false → (a || b) ≡ false
 neither true b p q = p
 neither false b p q = q
-
-left_false : (b : Bool) → (b && true) ≡ false → b ≡ false
-left_false true h = h
-left_false false h = refl
 
 -- a trade with a mark is there, and is unfiled
 there : (ts : List Trade) (i : ℕ) → 1 ≤ get_or (marks ts) i 0 → (i < length ts) × ((get_or ts i no_trade).filed ≡ false)
@@ -63,7 +60,7 @@ module _ (d : Day) (a : Acceptance) (r : Reply) (e : answer d (accept a) ≡ Ok 
 
   -- an acceptance is carried out on a day that trades
   trades : d.closed ≡ false
-  trades = let g = granted (causes d (accept a)) tt tt (judged d (accept a) (judge d (accept a)) r e) in left_false d.closed g.0.1.1.0
+  trades = let g = granted (causes d (accept a)) tt tt (judged d (accept a) (judge d (accept a)) r e) in sym (and-true d.closed) ∙ g.0.1.1.0
 
   -- each of its trades is unfiled
   marked : (k : ℕ) → length d.trades + 1 ≤ k → k < length d.trades + 1 + length (fills_of d a).trades → 1 ≤ unfiled_at (apply d (accept a)) k

@@ -1,5 +1,6 @@
 -- Where a run ends, and what each part of the day takes. Assumes nothing.
-use Rattle.std.proofs.Common.{◌≡◌, ℕ, ◌+◌, Bool, true, false, cond, ◌&&◌, eqb, ltb, List, [], ◌∷◌, length, get_or, drop, Some, None, codes, Option, sym, refl, ap, ◌∙◌, subst, arith, eqb-true}
+use Rattle.std.proofs.Common.{◌≡◌, ℕ, ◌+◌, Bool, true, false, cond, ◌&&◌, eqb, ltb, List, [], ◌∷◌, length, get_or, drop, Some, None, codes, Option, sym, refl, ap, ◌∙◌, subst, eqb-true}
+use Rattle.std.proofs.lemmas.Bool.{true≢false}
 use Rattle.records.specs.declared.causes.Cause.{Cause}
 use Rattle.records.specs.declared.causes.Cause.TheVariants.{UnknownKind, CutShort, ForeignBit, FieldAbsent, WrongLetter}
 use Rattle.records.specs.declared.parts.Kind.{Kind}
@@ -93,7 +94,7 @@ each P h (k ∷ ks) c none = by_test (eqb c (letter k)) refl (each P h ks c none
 
 -- true is not false
 never : {X : Type 0} → true ≡ false → X
-never h = let z : ◌≡◌ {A = ℕ} 0 1 = cc in absurd (omega arith)
+never h = absurd (true≢false h)
 
 -- the letters of a trading day
 abbrev trading : List ℕ

@@ -3,5 +3,4 @@ pub mod Laws
 pub mod Runs
 pub mod Said
 pub mod States
-pub mod Steps
 pub mod Texts

@@ -9,11 +9,12 @@ use Rattle.records.specs.Layout.{kind_of}
 use Rattle.records.specs.Reading.{read_answer, read_record}
 use Rattle.listing.specs.Listing.{letter_at, next_at, then}
 use Rattle.transcript.specs.Runs.{State, Asked, Asked.nothing, Done, asked, done, start}
-use Rattle.transcript.specs.Said.{line}
+use Rattle.venue.specs.Model.{Reply}
+use Rattle.transcript.specs.Said.{line, said_text}
 
--- what the answer to a record at a place does to the text and to the day
-pub record Answered (at count k : ℕ) (st : State) (a : Asked) (st' : State) (was now : List ℕ) : Type 0 where
-  pub added : now ≡ was ++ line count k (done at st a).said
+-- what is asked for in a record at a place was answered so, as its line shows it, and leaves the day so
+pub record Answered (at : ℕ) (st : State) (a : Asked) (st' : State) (said : Result Reply Refusal) : Type 0 where
+  pub said_is : said_text said ≡ said_text (done at st a).said
   pub state_is : st' ≡ (done at st a).after
 
 -- what a record that was read asks for; a letter that is read is that of a kind
@@ -41,9 +42,10 @@ module _ (room : ℕ) where
       cond (nat_le (length s) at) []
       (line_at count s at st ++ then (next_at s at) (λ next. text n s next (count + 1) (turn s at st).after) [])
 
-  -- what the turn of one record does to the text and to the day, and where the next record begins, if that can be told
-  pub record Turned (s : List ℕ) (at count : ℕ) (st st' : State) (was now : List ℕ) (next : Option ℕ) : Type 0 where
-    pub added : now ≡ was ++ line_at count s at st
+  -- what the turn of one record comes to: it is answered so, as its line shows it, leaves the day so, and the next record
+  -- begins there, if that can be told
+  pub record Turned (s : List ℕ) (at : ℕ) (st st' : State) (said : Result Reply Refusal) (next : Option ℕ) : Type 0 where
+    pub said_is : said_text said ≡ said_text (turn s at st).said
     pub state_is : st' ≡ (turn s at st).after
     pub next_is : next ≡ next_at s at
 

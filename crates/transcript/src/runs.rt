@@ -2,10 +2,10 @@
 use day::forms::{Closed, Setup, Trading};
 use prices::sources::Source;
 
-/// The day in its form.
+/// The day in its form, on the heap: a day is large, and a run is moved with each record.
 #[derive(Drop)]
 pub enum Run<S: Source> {
-    Setting(Setup<S>),
-    Trading(Trading<S>),
-    Closed(Closed<S>),
+    Setting(Box<Setup<S>>),
+    Trading(Box<Trading<S>>),
+    Closed(Box<Closed<S>>),
 }
