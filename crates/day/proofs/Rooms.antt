@@ -10,16 +10,17 @@ use Rattle.venue.specs.Calls.{Call.enter, Call.offer, causes}
 use Rattle.venue.specs.Model.{judge}
 use Rattle.venue.proofs.Placing.{place_below}
 use Rattle.tables.specs.declared.inner.Tables.{Tables}
-use Rattle.arrayvec.specs.ArrayVec.{array_vec_len}
 use Rattle.tables.specs.Tabled.{bare_day}
+use Rattle.tables.specs.Used.{used}
+use Rattle.tables.proofs.Room.{used_few}
 
 module _ (t : Tables) where
-  pub room_for_request : (e : Entry) → Ok tt ≡ judge (bare_day t) (enter e) → array_vec_len t.requests < 128
+  pub room_for_request : (e : Entry) → Ok tt ≡ judge (bare_day t) (enter e) → length (used t.requests) < 128
   room_for_request e v =
       let free = (granted (causes (bare_day t) (enter e)) tt tt (sym v)).0.1.1.1.1.1.1.1.1.1.0 in
       omega (arith, leb-false 128 (length (bare_day t).requests) free)
 
-  pub room_for_quote : (o : Offering) → Ok tt ≡ judge (bare_day t) (offer o) → array_vec_len t.quotes < 512
+  pub room_for_quote : (o : Offering) → Ok tt ≡ judge (bare_day t) (offer o) → length (used t.quotes) < 512
   room_for_quote o v =
       let free = (granted (causes (bare_day t) (offer o)) tt tt (sym v)).0.1.1.1.1.1.1.1.1.1.1.0 in
       omega (arith, leb-false 512 (length (bare_day t).quotes) free)
@@ -29,5 +30,5 @@ by_count : (ss : List Symbol) (bs : List ℕ) → length ss ≤ 64 → unwrap_or
 by_count [] bs e = lit< tt
 by_count (s ∷ ss) bs e = let here = place_below 0 (s ∷ ss) bs (omega arith) in omega arith
 
-pub place_within : (t : Tables) → array_vec_len t.symbols ≤ 64 → (bs : List ℕ) → unwrap_or (place_of (bare_day t) bs) 0 < 64
-place_within t few bs = by_count (bare_day t).symbols bs few
+pub place_within : (t : Tables) (bs : List ℕ) → unwrap_or (place_of (bare_day t) bs) 0 < 64
+place_within t bs = by_count (used t.symbols) bs (used_few t.symbols)

@@ -1,7 +1,8 @@
 -- What the fills leave of the quantities, and the trades that they make.
 -- Assumes nothing.
 use Rattle.std.specs.Prelude.{◌≡◌, ℕ, ◌+◌, Bool, List, [], ◌∷◌, length, take, drop, Ok, Err, Result, nat_lt}
-use Rattle.arrayvec.specs.ArrayVec.{ArrayVec}
+use Rattle.tables.specs.declared.table.Table.{Table}
+use Rattle.tables.specs.Used.{used}
 use Rattle.records.specs.declared.causes.Cause.{Cause}
 use Rattle.records.specs.declared.causes.Cause.TheVariants.{DayFull, NamedTwice, BelowFloor}
 use Rattle.prices.specs.Rows.{bare}
@@ -43,8 +44,8 @@ verdict (Ok x) = Ok tt
 verdict (Err e) = Err e
 
 -- granted, the fills are done, and no other open quantity has changed; refused, every quantity is what it was
-abbrev pub Leaves : Terms → Filled → List ℕ → List ℕ → Result (ArrayVec Trade) Cause → Type 0
+abbrev pub Leaves : Terms → Filled → List ℕ → List ℕ → Result (Table Trade 8) Cause → Type 0
 Leaves k f old new (Ok made) =
-    (filled_on (live_day k new) k.call.now.request made.items ≡ f)
+    (filled_on (live_day k new) k.call.now.request (used made) ≡ f)
     × ((live_day k new).opens ≡ renumbered (live_day k old).opens k.call.now.request f.open_left)
 Leaves k f old new (Err e) = new ≡ old

@@ -5,16 +5,17 @@ ghost use Rattle.venue.specs.Trading.{fills};
 ghost use Rattle.venue.specs.Calls.{Call.accept as accepts, accept_causes, causes, form_causes};
 ghost use Rattle.tables.specs.Priced.{market_day};
 ghost use Rattle.tables.specs.Tabled.{bare_day};
+ghost use Rattle.tables.specs.Used.{used};
 ghost use Rattle.deals.specs.Dealing.{Deals, Settles};
 ghost use Rattle.deals.specs.Filling.{fill_causes, verdict};
 
 use super::line::{has_inexecutable, line_up};
 use super::settle::settle;
 use super::terms::Terms;
-use arrayvec::ArrayVec;
 use prices::sources::Source;
 use records::causes::Cause;
 use tables::inner::{Market, Tables};
+use tables::table::Table;
 use tables::values::is_amount;
 use venue::rows::{Acceptance, Candidate, Report};
 
@@ -54,9 +55,9 @@ fn judge<S: Source>(market: &Market<S>, call: &Acceptance) -> Result<(), Cause>
 }
 
 /// Fills the quotes of a line and settles, or leaves the tables as they were.
-fn deal(t: &mut Tables, call: &Acceptance, line: &ArrayVec<Candidate, 8>) -> Result<Report, Cause>
-    ensures verdict { verdict result ≡ unless (fill_causes (bare_day t.old) call.now (fills (bare_day t.old) call.now.request line.now.items).trades) tt }
-    ensures settled { Settles call.now (fills (bare_day t.old) call.now.request line.now.items) t.old t.new result }
+fn deal(t: &mut Tables, call: &Acceptance, line: &Table<Candidate, 8>) -> Result<Report, Cause>
+    ensures verdict { verdict result ≡ unless (fill_causes (bare_day t.old) call.now (fills (bare_day t.old) call.now.request (used line.now)).trades) tt }
+    ensures settled { Settles call.now (fills (bare_day t.old) call.now.request (used line.now)) t.old t.new result }
 {
     let terms = Terms {
         call,

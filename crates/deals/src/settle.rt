@@ -1,6 +1,5 @@
 // What an acceptance that is kept leaves of requests, quotes and trades.
 ghost use Rattle.std.specs.Prelude.{◌≡◌, ◌+◌, ◌≤◌, ◌&&◌, ◌||◌, List, length, if◌then◌else◌, ◌==◌};
-ghost use Rattle.arrayvec.specs.ArrayVec.{array_vec_len};
 ghost use Rattle.prices.specs.declared.rows.Row.{Row};
 ghost use Rattle.prices.specs.Rows.{Screen};
 ghost use Rattle.venue.specs.declared.rows.Life.TheVariants.{Accepted};
@@ -9,11 +8,11 @@ ghost use Rattle.venue.specs.Trading.{renumbered};
 ghost use Rattle.venue.specs.Calls.{rest_of};
 ghost use Rattle.venue.specs.Model.{ended_as, ended_if, settled, settled_quotes};
 ghost use Rattle.tables.specs.Tabled.{bare_day, day_of};
+ghost use Rattle.tables.specs.Used.{used};
 ghost use Rattle.deals.specs.Filling.{filled_on};
 
-use arrayvec::ArrayVec;
 use tables::inner::{REQUESTS, Tables};
-use tables::rows::{end_quote, end_request, numbered_mut};
+use tables::rows::{end_quote, end_request_numbered};
 use venue::rows::{Acceptance, Life, Quote, Report, Request, Trade};
 
 // The letter of the call, which was judged before: nothing but this question asks it.
@@ -26,11 +25,11 @@ fn is_over(rest: Option<char>, left: u32) -> bool
 
 // Which request, and whether it is over, go through three small functions: a struct of the two would say no more.
 /// Ends request n, if it is over.
-fn end_if_over(requests: &mut ArrayVec<Request, REQUESTS>, n: u16, over: bool)
-    ensures { requests.new.items ≡ (if over then renumbered requests.old.items n (ended_as Accepted (row_numbered no_request requests.old.items n)) else requests.old.items) }
+fn end_if_over(requests: &mut [Request], n: u16, over: bool)
+    ensures { requests.new ≡ (if over then renumbered requests.old n (ended_as Accepted (row_numbered no_request requests.old n)) else requests.old) }
 {
-    if over && let Some(request) = numbered_mut(requests, n) {
-        end_request(request, Life::Accepted);
+    if over {
+        end_request_numbered(requests, n, Life::Accepted);
     }
 }
 
@@ -56,18 +55,18 @@ fn end_quotes(quotes: &mut [Quote], remains: &[u32], n: u16, over: bool)
 
 /// Settles an acceptance whose fills are kept, and says which trades are to be reported.
 pub fn settle(t: &mut Tables, call: &Acceptance, made: &[Trade]) -> Report
-    requires { array_vec_len t.old.trades + length made.now ≤ 512 }
+    requires { length (used t.old.trades) + length made.now ≤ 512 }
     ensures day { (rows : List Row) (screen : Screen) → day_of t.new rows screen ≡ settled (day_of t.old rows screen) call.now (filled_on (bare_day t.old) call.now.request made.now) }
-    ensures report { result ≡ record { day = t.old.number; first = array_vec_len t.old.trades + 1; last = array_vec_len t.old.trades + length made.now } }
+    ensures report { result ≡ record { day = t.old.number; first = length (used t.old.trades) + 1; last = length (used t.old.trades) + length made.now } }
 {
     let n = call.request;
     let over = is_over(call.rest, t.open(n));
-    end_if_over(&mut t.requests, n, over);
+    t.requests.edit(|requests| end_if_over(requests, n, over));
     let (_, remains) = t.quantities.split_at(REQUESTS);
     let remains = &remains[..t.quotes.len()];
-    end_quotes(t.quotes.as_mut_slice(), remains, n, over);
+    t.quotes.edit(|quotes| end_quotes(quotes, remains, n, over));
     let before = t.trades.len();
-    t.trades.try_extend_from_slice(made).unwrap();
+    t.trades.extend_from_slice(made);
     Report {
         day: t.number,
         first: (before + 1) as u16,

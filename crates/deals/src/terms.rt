@@ -3,13 +3,14 @@ ghost use Rattle.std.specs.Prelude.{◌≡◌, ◌≤◌, length};
 ghost use Rattle.records.specs.Causes.{unless};
 ghost use Rattle.venue.specs.Days.{quote_of, request_of};
 ghost use Rattle.venue.specs.Trading.{meets as meets_both, total as total_of, trade_of_fill};
+ghost use Rattle.tables.specs.Used.{used};
 
 use super::line::has_double;
-use arrayvec::ArrayVec;
 use records::causes::Cause;
 use tables::inner::TRADES;
 use tables::look::numbered;
 use tables::market::meets;
+use tables::table::Table;
 use venue::rows::{Acceptance, Candidate, Quote, Request, Side, Trade};
 
 // It is copied and no more: nobody compares or shows it.
@@ -79,8 +80,8 @@ impl Terms<'_> {
     }
 
     /// Judges the fills: whether the day has room for their trades, a quote was named twice, the floor is reached.
-    pub fn judge(&self, made: &ArrayVec<Trade, 8>) -> Result<(), Cause>
-        ensures { result ≡ unless (fill_causes (terms_day self.now) self.now.call.now made.now.items) tt }
+    pub fn judge(&self, made: &Table<Trade, 8>) -> Result<(), Cause>
+        ensures { result ≡ unless (fill_causes (terms_day self.now) self.now.call.now (used made.now)) tt }
     {
         if self.trades.len() + made.len() > TRADES {
             return Err(Cause::DayFull);

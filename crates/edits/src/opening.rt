@@ -1,14 +1,14 @@
 // Tables that are set up, and the day that opens on them.
-ghost use Rattle.std.specs.Prelude.{◌≡◌, ◌<◌, []};
-ghost use Rattle.arrayvec.specs.ArrayVec.{array_vec_len};
+ghost use Rattle.std.specs.Prelude.{◌≡◌, ◌<◌, [], length};
 ghost use Rattle.prices.specs.Rows.{bare};
 ghost use Rattle.tables.specs.Tabled.{bare_day, setting_of};
+ghost use Rattle.tables.specs.Used.{used};
 ghost use Rattle.venue.specs.Model.{open_day};
 ghost use Rattle.venue.specs.Setting.{SetupCall.add_symbol, SetupCall.add_user, nothing_set, opening_of, setup_apply};
 
-use arrayvec::ArrayVec;
 use prices::rows::Ticks;
 use tables::inner::{Tables, USERS};
+use tables::table::Table;
 use venue::rows::{NewSymbol, NewUser, Symbol, User};
 
 /// The clock when a day opens.
@@ -22,10 +22,10 @@ pub fn empty_tables() -> Tables
         number: 0,
         clock: OPENING_TIME,
         users: [User::default(); USERS],
-        symbols: ArrayVec::new(),
-        requests: ArrayVec::new(),
-        quotes: ArrayVec::new(),
-        trades: ArrayVec::new(),
+        symbols: Table::new(),
+        requests: Table::new(),
+        quotes: Table::new(),
+        trades: Table::new(),
         quantities: [0; 640],
     }
 }
@@ -44,7 +44,7 @@ pub fn enter_user(t: &mut Tables, user: &NewUser)
 
 /// Enters a symbol.
 pub fn enter_symbol(t: &mut Tables, symbol: &NewSymbol)
-    requires { array_vec_len t.old.symbols < 64 }
+    requires { length (used t.old.symbols) < 64 }
     ensures { setting_of t.new ≡ setup_apply (setting_of t.old) (add_symbol symbol.now) }
 {
     t.symbols.push(Symbol {

@@ -1,34 +1,43 @@
--- The rows of a page give the page, and where their lines name symbols, there are symbols. Assumes nothing.
-use Rattle.std.proofs.Common.{◌≡◌, ℕ, zero, suc, ◌<◌, Bool, true, List, [], ◌∷◌, ◌++◌, map, length, fold, filter, refl, ap, ◌∙◌, arith}
-use Rattle.std.specs.List.{All, flat_map}
+-- A page that lists what a user sees, or the executable quotes of a request, is the view or the answer to a book question; and
+-- where its lines name symbols, there are symbols. Assumes nothing.
+use Rattle.std.proofs.Common.{◌≡◌, ℕ, zero, suc, ◌+◌, ◌<◌, ◌≤◌, Bool, true, Bor, List, [], ◌∷◌, ◌++◌, map, length, fold, filter, refl, ap, ◌∙◌, arith}
+use Rattle.std.specs.List.{flat_map}
 use Rattle.std.specs.Cmp.{first_so}
-use Rattle.std.proofs.lemmas.Grind.{flat_map-append}
-use Rattle.std.proofs.lemmas.List.Elements.{All-append, All-cons, All-map}
 use Rattle.std.proofs.lemmas.List.Folds.{flat_map-map}
+use Rattle.std.proofs.lemmas.List.{length-map}
 use Rattle.ranked.specs.Ranks.{ranked}
 use Rattle.tables.specs.declared.inner.Tables.{Tables}
 use Rattle.tables.specs.Tabled.{bare_day}
+use Rattle.tables.specs.Used.{used}
+use Rattle.tables.proofs.Room.{used_few}
 use Rattle.venue.specs.declared.rows.Candidate.{Candidate}
 use Rattle.venue.specs.declared.rows.Request.{Request}
-use Rattle.venue.specs.Days.{Day, is_open, no_request, numbered, owns}
-use Rattle.venue.specs.Pages.{book_page, executables, numbers, own_quotes, own_trades, quote_line, request_before, seen_requests, shown_line, view_page, whole_line}
+use Rattle.venue.specs.Days.{Day, is_open, no_request, numbered, owns, quotable}
+use Rattle.venue.specs.Pages.{book_page, executable_line, executables, numbers, own_quotes, own_trades, quote_line, request_before, seen_requests, shown_line, trade_line, view_page, whole_line}
 use Rattle.venue.specs.Places.{Placed}
 use Rattle.venue.specs.Trading.{in_order}
-use Rattle.pages.specs.declared.rows.Row.TheVariants.{Shown, Quote, Trade, Whole, Executable}
-use Rattle.pages.specs.Rows.{Named, book_rows, line_of, lines_of, view_rows}
+use Rattle.pages.specs.declared.rows.Content.TheVariants.{View, Book}
+use Rattle.pages.specs.declared.rows.Listed.{Listed}
+use Rattle.pages.specs.declared.rows.Row.TheVariants.{Executable}
+use Rattle.pages.specs.Listing.{listed}
+use Rattle.pages.specs.Rows.{Tellable, line_of, lines_of, places, rows_of}
 use Rattle.pages.specs.Seats.{Seated}
+use Rattle.pages.proofs.Told.{view_told}
+
+pub few_places : (t : Tables) (seen : Bor (List Listed)) → length seen.now ≤ 128 → places (bare_day t) (View seen) ≤ 1152
+few_places t seen h = omega (arith, used_few t.quotes, used_few t.trades)
 
 module _ (d : Day) (u : ℕ) where
-  pub view_lines : lines_of d u (view_rows d u) ≡ view_page d u
-  view_lines =
-      flat_map-append (line_of d u) (map Shown (seen_requests d u)) (map Quote (own_quotes d u) ++ map Trade (own_trades d u))
-      ∙ ap (λ l. l ++ lines_of d u (map Quote (own_quotes d u) ++ map Trade (own_trades d u))) (flat_map-map (line_of d u) Shown (seen_requests d u))
-      ∙ ap (λ l. flat_map (shown_line d) (seen_requests d u) ++ l) (flat_map-append (line_of d u) (map Quote (own_quotes d u)) (map Trade (own_trades d u)))
-      ∙ ap (λ l. flat_map (shown_line d) (seen_requests d u) ++ (l ++ lines_of d u (map Trade (own_trades d u)))) (flat_map-map (line_of d u) Quote (own_quotes d u))
-      ∙ ap (λ l. flat_map (shown_line d) (seen_requests d u) ++ (flat_map (quote_line d) (own_quotes d u) ++ l)) (flat_map-map (line_of d u) Trade (own_trades d u))
+  -- what is listed of a user's requests, and then its own, is its view
+  pub view_lines : (seen : Bor (List Listed)) → seen.now ≡ map (listed d) (seen_requests d u) → lines_of d u (rows_of d u (View seen)) ≡ view_page d u
+  view_lines seen is =
+      view_told d u seen.now
+      ∙ ap (λ l. flat_map (λ (x : Listed). shown_line d x.number) l ++ (flat_map (quote_line d) (own_quotes d u) ++ flat_map (trade_line d u) (own_trades d u))) is
+      ∙ ap (λ l. l ++ (flat_map (quote_line d) (own_quotes d u) ++ flat_map (trade_line d u) (own_trades d u))) (flat_map-map (λ (x : Listed). shown_line d x.number) (listed d) (seen_requests d u))
 
-  pub book_lines : (n : ℕ) → lines_of d u (book_rows d n) ≡ book_page d n
-  book_lines n = ap (λ l. whole_line d n ++ l) (flat_map-map (line_of d u) Executable (in_order d n (executables d n)))
+  pub book_lines : (n : ℕ) (line : Bor (List Candidate)) → line.now ≡ in_order d n (executables d n) → lines_of d u (rows_of d u (Book n line)) ≡ book_page d n
+  book_lines n line is =
+      ap (λ l. whole_line d n ++ l) (flat_map-map (line_of d u) Executable line.now ∙ ap (flat_map executable_line) is)
 
 -- among no numbers none passes
 some_among : (into : List ℕ → List ℕ) (p : ℕ → Bool) (n k : ℕ) → into [] ≡ [] → k < length (into (filter p (numbers n))) → 0 < n
@@ -45,23 +54,23 @@ open_among [] (suc n) h = cc
 open_among (row ∷ rows) n h = omega arith
 
 module _ (t : Tables) (placed : Placed (bare_day t)) where
-  by_request : 0 < length t.requests.items → Seated t
+  by_request : 0 < length (used t.requests) → Seated t
   by_request some = let first = placed.0 0 some in (placed, omega arith)
 
-  by_trade : 0 < length t.trades.items → Seated t
-  by_trade some = (placed, some_then (length t.trades.items) (length t.symbols.items) placed.1 some)
+  by_trade : 0 < length (used t.trades) → Seated t
+  by_trade some = (placed, some_then (length (used t.trades)) (length (used t.symbols)) placed.1 some)
 
-  pub named_view : (u : ℕ) → All (Named t) (view_rows (bare_day t) u)
-  named_view u =
-      let d = bare_day t in
-      let into : List ℕ → List ℕ = λ ns. fold (λ line n. ranked (request_before d) n line) [] ns in
-      All-append (Named t) (map Shown (seen_requests d u)) (map Quote (own_quotes d u) ++ map Trade (own_trades d u))
-      (All-map (Named t) Shown (seen_requests d u) (λ k _ h _. by_request (some_among into _ _ k refl h)))
-      (All-append (Named t) (map Quote (own_quotes d u)) (map Trade (own_trades d u))
-      (All-map (Named t) Quote (own_quotes d u) (λ _ _ _ h. cc))
-      (All-map (Named t) Trade (own_trades d u) (λ k _ h _. by_trade (some_among (λ ns. ns) _ _ k refl h))))
+  pub view_tellable : (u : ℕ) (seen : Bor (List Listed)) → seen.now ≡ map (listed (bare_day t)) (seen_requests (bare_day t) u) → Tellable t (View seen)
+  view_tellable u seen is some = by_test (length seen.now) refl some
+    where
+      by_test : (n : ℕ) → n ≡ length seen.now → 0 < n + length (used t.trades) → Seated t
+      by_test zero e h = by_trade (omega arith)
+      by_test (suc n) e h =
+          let into : List ℕ → List ℕ = λ ns. fold (λ line n. ranked (request_before (bare_day t)) n line) [] ns in
+          let long = ap length is in
+          let some_seen : 0 < length (map (listed (bare_day t)) (seen_requests (bare_day t) u)) = omega arith in
+          let one : 0 < length (into (filter (λ k. quotable (bare_day t) u k) (numbers (length (used t.requests))))) = omega (arith, length-map (seen_requests (bare_day t) u) (listed (bare_day t))) in
+          by_request (some_among into (λ k. quotable (bare_day t) u k) (length (used t.requests)) 0 refl one)
 
-  pub named_book : (u n : ℕ) (line : List Candidate) → owns (bare_day t) u n ≡ true → All (Named t) (Whole n ∷ map Executable line)
-  named_book u n line own =
-      All-cons (Named t) (Whole n) (map Executable line) (λ _. by_request (open_among t.requests.items n (first_so _ _ own)))
-      (All-map (Named t) Executable line (λ _ _ _ h. cc))
+  pub book_tellable : (u n : ℕ) (line : Bor (List Candidate)) → owns (bare_day t) u n ≡ true → Tellable t (Book n line)
+  book_tellable u n line own some = by_request (open_among (used t.requests) n (first_so _ _ own))

@@ -1,18 +1,13 @@
 // The rows that a page is made of, and its lines.
-ghost use Rattle.std.specs.Prelude.{◌≡◌, ◌≤◌, false, length};
-ghost use Rattle.std.specs.List.{All};
+ghost use Rattle.std.specs.Prelude.{◌≡◌, ◌≤◌, false};
 ghost use Rattle.records.specs.Layout.{kind_of};
 ghost use Rattle.records.specs.Reading.{no_kind};
-ghost use Rattle.pages.specs.declared.rows.TheConstants.{ROWS};
-ghost use Rattle.pages.specs.Rows.{Named};
+ghost use Rattle.tables.specs.Tabled.{bare_day};
+ghost use Rattle.pages.specs.Rows.{Tellable, places};
 
-use arrayvec::ArrayVec;
 use records::parts::Record;
-use tables::inner::{Market, QUOTES, REQUESTS, TRADES};
+use tables::inner::Market;
 use venue::rows::Candidate;
-
-/// How many rows a page has room for: one for each request, quote and trade of a day.
-pub const ROWS: usize = REQUESTS + QUOTES + TRADES;
 
 /// What a line of a page tells.
 #[derive(Clone, Copy, Debug, PartialEq, Eq)]
@@ -29,17 +24,6 @@ pub enum Row {
     Executable(Candidate),
 }
 
-// By hand: a derived default wants a case without fields.
-/// What a list of rows holds behind its last row.
-impl Default for Row {
-    fn default() -> Self {
-        Row::Shown(0)
-    }
-}
-
-/// The rows of a page.
-pub type Rows = ArrayVec<Row, ROWS>;
-
 // By its letter, as a record is laid.
 /// A line of a page: the letter of its kind, and its fields.
 #[derive(Drop)]
@@ -49,20 +33,31 @@ pub struct Line {
     ghost known: { no_kind (kind_of kind) ≡ false },
 }
 
-/// A page for one user: its rows, and the market that it tells of.
-#[derive(Drop)]
-pub struct Page<'a, S> {
-    pub market: &'a Market<S>,
-    pub user: u8,
-    pub rows: &'a [Row],
-    ghost named: { All (Named market.now.tables) rows.now },
-    ghost few: { length rows.now ≤ ROWS },
-}
-
 // Its order is not derived: names are compared in one place, `tables::names`.
 /// A request among those that a user sees: the name of its symbol, and its number.
 #[derive(Clone, Copy, Debug, Default, PartialEq, Eq)]
 pub struct Listed {
     pub name: [u8; 8],
     pub number: u16,
+}
+
+// It is copied and no more: nobody compares or shows it.
+/// What a page lists in an order of its own.
+#[derive(Clone, Copy)]
+pub enum Content<'a> {
+    /// The requests that a user sees. The user's own quotes and trades stand behind them by number.
+    View(&'a [Listed]),
+    /// A request, by its number, and its executable quotes.
+    Book(u16, &'a [Candidate]),
+}
+
+// The rows are found by number as they are told, and not listed first: there can be 1,152 of them, and most pages have few.
+/// A page for one user: what it lists, and the market that it tells of.
+#[derive(Drop)]
+pub struct Page<'a, S> {
+    pub market: &'a Market<S>,
+    pub user: u8,
+    pub content: Content<'a>,
+    ghost tellable: { Tellable market.now.tables content },
+    ghost few: { places (bare_day market.now.tables) content ≤ 1152 },
 }

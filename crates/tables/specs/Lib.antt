@@ -1,3 +1,4 @@
 pub mod Lends
 pub mod Tabled
 pub mod Priced
+pub mod Used

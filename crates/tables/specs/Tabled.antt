@@ -1,13 +1,13 @@
 -- The day that the tables stand for.
 -- Assumes nothing.
-use Rattle.std.specs.Prelude.{ℕ, min, Bool, false, ◌&&◌, List, [], take, drop, ◌==◌}
-use Rattle.arrayvec.specs.ArrayVec.{array_vec_len}
+use Rattle.std.specs.Prelude.{ℕ, min, Bool, false, ◌&&◌, List, [], length, take, drop, ◌==◌}
 use Rattle.prices.specs.declared.rows.Row.{Row}
 use Rattle.prices.specs.Rows.{Screen, bare}
 use Rattle.venue.specs.Days.{Day, request_of, quote_of, open_of, remaining_of, is_open}
 use Rattle.venue.specs.Setting.{Setting}
 use Rattle.venue.specs.Trading.{meets}
 use Rattle.tables.specs.declared.inner.Tables.{Tables}
+use Rattle.tables.specs.Used.{used}
 
 -- over a source with these rows and this screen
 abbrev pub day_of : Tables → List Row → Screen → Day
@@ -17,12 +17,12 @@ day_of t rows screen =
       clock = t.clock;
       closed = false;
       users = t.users;
-      symbols = t.symbols.items;
-      requests = t.requests.items;
-      opens = take (array_vec_len t.requests) t.quantities;
-      quotes = t.quotes.items;
-      remains = take (array_vec_len t.quotes) (drop 128 t.quantities);
-      trades = t.trades.items;
+      symbols = used t.symbols;
+      requests = used t.requests;
+      opens = take (length (used t.requests)) t.quantities;
+      quotes = used t.quotes;
+      remains = take (length (used t.quotes)) (drop 128 t.quantities);
+      trades = used t.trades;
       rows = rows;
       screen = screen;
     }
@@ -33,7 +33,7 @@ bare_day t = day_of t [] bare
 
 -- what was entered before the day opened
 abbrev pub setting_of : Tables → Setting
-setting_of t = record { users = t.users; symbols = t.symbols.items }
+setting_of t = record { users = t.users; symbols = used t.symbols }
 
 -- two parts of what makes a quote executable: the request is open and the quote a live one on it, and the smaller of what is
 -- open and what remains meets both minimums

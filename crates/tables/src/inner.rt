@@ -1,8 +1,7 @@
-// The tables of a day: users at their numbers, and all other rows in vectors of fixed room, in the order of acceptance.
-ghost use Rattle.std.specs.Prelude.{◌≡◌, ◌≤◌, length};
-ghost use Rattle.arrayvec.specs.ArrayVec.{array_vec_len};
+// The tables of a day: users at their numbers, and all other rows in tables of fixed room, in the order of acceptance.
+ghost use Rattle.std.specs.Prelude.{◌≡◌, length};
 
-use arrayvec::ArrayVec;
+use super::table::Table;
 use venue::rows::{Quote, Request, Symbol, Trade, User};
 
 /// How many users, symbols, requests, quotes and trades a day has room for.
@@ -18,24 +17,20 @@ pub const TRADES: usize = 512;
 
 /// The tables. Users stand at their numbers; symbols, requests, quotes and trades in the order of acceptance. The
 /// quantities are those that are open of the requests, and from place 128 on those that remain of the quotes.
-#[derive(Drop)]
+#[derive(Clone, Copy)]
 pub struct Tables {
     pub number: u32,
     pub clock: u32,
     // A plain array: every user has a place, so there is no length.
     pub users: [User; USERS],
-    pub symbols: ArrayVec<Symbol, SYMBOLS>,
-    pub requests: ArrayVec<Request, REQUESTS>,
-    pub quotes: ArrayVec<Quote, QUOTES>,
-    pub trades: ArrayVec<Trade, TRADES>,
-    // One plain array beside the vectors: an acceptance that fails puts all of it back at once.
+    pub symbols: Table<Symbol, SYMBOLS>,
+    pub requests: Table<Request, REQUESTS>,
+    pub quotes: Table<Quote, QUOTES>,
+    pub trades: Table<Trade, TRADES>,
+    // One plain array beside the tables: an acceptance that fails puts all of it back at once.
     pub quantities: [u32; 640],
     ghost every_user: { length users ≡ 64 },
     ghost every_quantity: { length quantities ≡ 640 },
-    ghost few_symbols: { array_vec_len symbols ≤ 64 },
-    ghost few_requests: { array_vec_len requests ≤ 128 },
-    ghost few_quotes: { array_vec_len quotes ≤ 512 },
-    ghost few_trades: { array_vec_len trades ≤ 512 },
 }
 
 /// The tables, and the source that their prices are read from.

@@ -8,4 +8,5 @@ pub mod look;
 pub mod market;
 pub mod names;
 pub mod rows;
+pub mod table;
 pub mod values;

@@ -1,7 +1,7 @@
 // What is read of the tables. A number or a place that is none gives the empty row.
-ghost use Rattle.std.specs.Prelude.{◌≡◌, ◌<◌, slice_index_or};
-ghost use Rattle.arrayvec.specs.ArrayVec.{array_vec_len};
+ghost use Rattle.std.specs.Prelude.{◌≡◌, ◌<◌, length, slice_index_or};
 ghost use Rattle.tables.specs.Tabled.{bare_day};
+ghost use Rattle.tables.specs.Used.{used};
 ghost use Rattle.venue.specs.Days.{numbered as row_numbered, open_of, quote_of, remaining_of, request_of, symbol_of, trade_of, user_of};
 
 use super::inner::{REQUESTS, Tables};
@@ -32,7 +32,7 @@ impl Tables {
     pub fn symbol(&self, place: usize) -> Symbol
         ensures ticks { result.ticks ≡ (symbol_of (bare_day self.now) place).ticks }
         ensures large { result.large ≡ (symbol_of (bare_day self.now) place).large }
-        ensures name { place < array_vec_len self.now.symbols → result.name ≡ (symbol_of (bare_day self.now) place).name }
+        ensures name { place < length (used self.now.symbols) → result.name ≡ (symbol_of (bare_day self.now) place).name }
     {
         self.symbols
             .as_slice()

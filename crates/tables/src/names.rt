@@ -39,18 +39,20 @@ pub fn is_name(name: &[u8; 8]) -> bool
     is_sign(name[0]) && is_padded(name)
 }
 
+// Names are compared as numbers, the first byte the greatest: eight bytes at once, where `==` and `<` of arrays go byte by byte. Lists
+// of requests are kept in order by them.
 /// Whether two names are the same.
 pub fn name_is(name: &[u8; 8], other: &[u8; 8]) -> bool
     ensures { result ≡ bytes_eq name.now other.now }
 {
-    name == other
+    u64::from_be_bytes(*name) == u64::from_be_bytes(*other)
 }
 
 /// Whether a name comes before another, by the first byte that differs.
 pub fn name_precedes(a: &[u8; 8], b: &[u8; 8]) -> bool
     ensures { result ≡ name_before a.now b.now }
 {
-    a < b
+    u64::from_be_bytes(*a) < u64::from_be_bytes(*b)
 }
 
 /// The place of the symbol with a name.

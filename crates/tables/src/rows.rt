@@ -2,21 +2,26 @@
 ghost use Rattle.std.specs.Prelude.{◌≡◌, IfNone, IfSome};
 ghost use Rattle.std.specs.Borrow.{sem};
 ghost use Rattle.tables.specs.Lends.{lends_numbered};
-ghost use Rattle.venue.specs.Days.{numbered as row_numbered};
-ghost use Rattle.venue.specs.Model.{ended as ended_quote, ended_as};
+ghost use Rattle.venue.specs.Days.{no_quote, no_request, no_trade, numbered as row_numbered};
+ghost use Rattle.venue.specs.Model.{ended as ended_quote, ended_as, filed_trade, without_quote};
 ghost use Rattle.venue.specs.Trading.{renumbered};
 
 use super::facts::is_open;
-use arrayvec::ArrayVec;
-use venue::rows::{Life, Quote, Request};
+use venue::rows::{Life, Quote, Request, Trade};
 
+// By index: of a row that a slice's `get_mut` lends, nothing is known once it is given back.
 /// The row with a number, counted from 1, for writing, if there is one.
-pub fn numbered_mut<R, const CAP: usize>(rows: &mut ArrayVec<R, CAP>, n: u16) -> Option<&mut R>
-    ensures* writes_back { sem 𝓛 (lends_numbered R.row CAP.row rows.entry n result) }
-    ensures row { IfSome result (λ row. (none : R) → row.now ≡ row_numbered none rows.old.items n) }
-    ensures absent { IfNone result ((row : R) → renumbered rows.old.items n row ≡ rows.old.items) }
+pub fn numbered_mut<R>(rows: &mut [R], n: u16) -> Option<&mut R>
+    ensures* writes_back { sem 𝓛 (lends_numbered R.row rows.entry n result) }
+    ensures row { IfSome result (λ row. (none : R) → row.now ≡ row_numbered none rows.old n) }
+    ensures absent { IfNone result ((row : R) → renumbered rows.old n row ≡ rows.old) }
 {
-    rows.get_mut(usize::from(n).checked_sub(1)?)
+    let i = usize::from(n).checked_sub(1)?;
+    if i < rows.len() {
+        Some(&mut rows[i])
+    } else {
+        None
+    }
 }
 
 /// Ends an open request.
@@ -33,4 +38,31 @@ pub fn end_quote(row: &mut Quote)
     ensures { row.new ≡ ended_quote row.old }
 {
     row.live = false;
+}
+
+/// Ends the request with a number, if there is one and it is open.
+pub fn end_request_numbered(rows: &mut [Request], n: u16, life: Life)
+    ensures { rows.new ≡ renumbered rows.old n (ended_as life (row_numbered no_request rows.old n)) }
+{
+    if let Some(row) = numbered_mut(rows, n) {
+        end_request(row, life);
+    }
+}
+
+/// Ends the quote with a number, if there is one.
+pub fn end_quote_numbered(rows: &mut [Quote], n: u16)
+    ensures { rows.new ≡ without_quote n rows.old }
+{
+    if let Some(row) = numbered_mut(rows, n) {
+        end_quote(row);
+    }
+}
+
+/// Marks the trade with a number as filed, if there is one.
+pub fn file_trade_numbered(rows: &mut [Trade], n: u16)
+    ensures { rows.new ≡ renumbered rows.old n (filed_trade (row_numbered no_trade rows.old n)) }
+{
+    if let Some(row) = numbered_mut(rows, n) {
+        row.filed = true;
+    }
 }

@@ -6,7 +6,7 @@ use Rattle.edits.proofs.sweeps.sweep.Goals as goal
 pub loop-row-preserved : goal.loop-row-preserved
 loop-row-preserved g c =
     let C = Leaves g.F.Fn c.args.change in
-    let before = c.as_mut_slice-row-items.result.now in
+    let before = c.args.rows.now in
     let rows = c.loop-row.row-items in
     let i = c.loop-row.row-index in
     let y = c.change.new.arg2 in

@@ -15,7 +15,7 @@ returns g c =
     let rs = g.S.Source.rows s.market.source in
     let sc = g.S.Source.screen s.market.source in
     let place : c.unwrap_or-place.result ≡ unwrap_or (place_of (bare_day t) c.args.posting.name) 0 = c.unwrap_or-place.ensures ∙ ap (λ o. unwrap_or o 0) c.place_of.ensures in
-    let within = place_within t t.few_symbols c.args.posting.name in
+    let within = place_within t c.args.posting.name in
     let posted = c.post.ensures.answer ∙ cond-true _ _ _ (lt-ltb _ _ (subst (λ (n : ℕ). n < 64) (sym place) within)) in
     let rows =
     c.post.ensures.rows

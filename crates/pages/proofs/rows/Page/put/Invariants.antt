@@ -1,9 +1,11 @@
-use Rattle.std.proofs.Common.{take}
+use Rattle.tables.specs.Tabled.{bare_day}
 use Rattle.tables.specs.Priced.{market_day}
-use Rattle.pages.specs.Rows.{lines_of}
+use Rattle.pages.specs.Rows.{row_at, row_bytes}
+use Rattle.pages.proofs.ByNumber.{lines_to}
 use Rattle.pages.proofs.Putting.{Put}
 use Rattle.pages.proofs.rows.Page.put.Given as goal
 
-abbrev pub invariant-loop-row : goal.invariant-loop-row
-invariant-loop-row g l =
-    Put l.initial.out (lines_of (market_day g.S.Source.rows g.S.Source.screen l.self.market.now) l.self.user (take l.row-index l.self.rows.now)) l.out l.at
+abbrev pub invariant-loop-n : goal.invariant-loop-n
+invariant-loop-n g l =
+    let d = market_day g.S.Source.rows g.S.Source.screen l.self.market.now in
+    Put l.initial.out (lines_to (λ n. row_bytes d l.self.user (row_at (bare_day l.self.market.now.tables) l.self.user l.self.content n)) l.n) l.out l.at
