@@ -11,7 +11,7 @@ use super::facts::is_open;
 use super::table::Table;
 use venue::rows::{Life, Quote, Request, Trade};
 
-// By index too, and not by `row_numbered_mut`: what is written through two loans in turn is not followed.
+// By index too, and not by `row_numbered_mut`: what is written through a slice of an array is not followed back to the table.
 /// The row of a table with a number, counted from 1, for writing, if there is one.
 pub fn numbered_mut<R, const CAP: usize>(rows: &mut Table<R, CAP>, n: u16) -> Option<&mut R>
     ensures* writes_back { sem 𝓛 (lends_numbered R.row CAP.row rows.entry n result) }
